@@ -1,0 +1,3 @@
+pub mod AddressText
+pub mod Equal
+pub mod Matches

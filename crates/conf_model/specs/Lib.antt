@@ -1,0 +1,7 @@
+pub mod Dialogue
+pub mod Equal
+pub mod Fronts
+pub mod Grammar
+pub mod Handshake
+pub mod Stable
+pub mod Users

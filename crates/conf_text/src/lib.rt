@@ -1,0 +1,8 @@
+//! Lists and texts that contracts see as lists, and want of memory as an error.
+#![tactic(auto)]
+
+mod list;
+mod memory;
+
+pub use list::{List, Text};
+pub use memory::Memory;

@@ -1,0 +1,3 @@
+/// Memory was refused.
+#[derive(Clone, Copy, PartialEq, Eq, Debug)]
+pub struct Memory;

@@ -1,0 +1,151 @@
+-- What the worked examples share.
+use Rattle.std.specs.Prelude.{ℕ, zero, suc, Bool, true, false, Option, Some, None, List, [], ◌∷◌, codes, option_map}
+use Rattle.addr_pattern.specs.declared.addr.Addr.{Addr}
+use Rattle.addr_pattern.specs.declared.endpoint.Endpoint.{Endpoint}
+use Rattle.addr_pattern.specs.declared.pattern.HostPattern.{HostPattern}
+use Rattle.addr_pattern.specs.declared.pattern.PortTest.{PortTest}
+use Rattle.addr_pattern.specs.declared.pattern.Pattern.{Pattern}
+use Rattle.conf_model.specs.declared.protocol.Method.{Method}
+use Rattle.conf_model.specs.declared.rule.ClientRule.{ClientRule}
+use Rattle.conf_model.specs.declared.rule.SocksRule.{SocksRule}
+use Rattle.conf_model.specs.declared.route.Route.{Route}
+use Rattle.conf_model.specs.declared.config.Config.{Config}
+use Rattle.conf_model.specs.declared.user.User.{User}
+use Rattle.socks_machine.specs.declared.world.Outer.{Outer}
+use Rattle.socks_machine.specs.declared.world.NextMark.{NextMark}
+use Rattle.socks_machine.specs.declared.world.TurnEvent.{TurnEvent}
+use Rattle.socks_machine.specs.declared.world.Event.{Event}
+use Rattle.socks_machine.specs.declared.world.World.{World}
+use Rattle.socks_machine.specs.LogText.{log_text}
+use Rattle.socks_machine.specs.Step.{run, start, step}
+use Rattle.socks_machine.specs.Taking.{◌>>=◌}
+use Rattle.socks_machine.specs.Transcript.{traced, with_ends}
+use Rattle.conf_model.specs.declared.route.Via.{Via}
+use Rattle.conf_model.specs.declared.protocol.Version.{Version}
+
+abbrev pub any : Pattern
+any = record { host = HostPattern.Any; port = PortTest.Any }
+
+-- a network of IPv4
+abbrev pub net : ℕ → ℕ → Pattern
+net addr bits = record { host = HostPattern.Net (Addr.V4 addr) bits; port = PortTest.Any }
+
+abbrev pub at4 : ℕ → ℕ → Endpoint
+at4 addr port = record { addr = Addr.V4 addr; port = port }
+
+abbrev pub client_rule : Bool → Pattern → Pattern → ClientRule
+client_rule pass from to = record { pass = pass; from = from; to = to; max = None }
+
+abbrev pub socks_rule : Bool → Pattern → Pattern → Option ℕ → SocksRule
+socks_rule pass from to max = record {
+  pass = pass;
+  from = from;
+  to = to;
+  connect = true;
+  bind = true;
+  udpassociate = true;
+  bindreply = true;
+  udpreply = true;
+  tcp = true;
+  udp = true;
+  noauth = true;
+  username = true;
+  v4 = true;
+  v5 = true;
+  users = [];
+  max = max;
+}
+
+abbrev pub config : List Method → List ClientRule → List SocksRule → List Route → Config
+config methods client socks routes = record {
+  internals = at4 0x7F000001 1080 ∷ [];
+  externals = [];
+  control = None;
+  methods = methods;
+  negotiate = 30;
+  io = 0;
+  client = client;
+  socks = socks;
+  routes = routes;
+}
+
+-- any client may ask for anything
+abbrev pub k1 : Config
+k1 = config (Method.NoAuth ∷ []) (client_rule true any any ∷ []) (socks_rule true any any None ∷ []) []
+
+abbrev pub client_at : Endpoint
+client_at = at4 0x0A000005 5000
+
+abbrev pub local_at : Endpoint
+local_at = at4 0x7F000001 1080
+
+abbrev pub at6 : ℕ → ℕ → Endpoint
+at6 addr port = record { addr = Addr.V6 addr; port = port }
+
+abbrev pub proxy4 : Via
+proxy4 = Via.Proxy (at4 0xC0000201 1080) Version.V4 None
+
+abbrev pub proxy5 : Via
+proxy5 = Via.Proxy (at4 0xC0000201 1080) Version.V5 None
+
+abbrev pub route : Via → Route
+route via = record { from = any; to = any; via = via }
+
+abbrev pub abc_user : List User
+abc_user = record { name = codes "abc"; digest = 0xba ∷ 0x78 ∷ 0x16 ∷ 0xbf ∷ 0x8f ∷ 0x01 ∷ 0xcf ∷ 0xea ∷ 0x41 ∷ 0x41 ∷ 0x40 ∷ 0xde ∷ 0x5d ∷ 0xae ∷ 0x22 ∷ 0x23 ∷ 0xb0 ∷ 0x03 ∷ 0x61 ∷ 0xa3 ∷ 0x96 ∷ 0x17 ∷ 0x7a ∷ 0x9c ∷ 0xb4 ∷ 0x10 ∷ 0xff ∷ 0x61 ∷ 0xf2 ∷ 0x00 ∷ 0x15 ∷ 0xad ∷ [] } ∷ []
+
+-- a turn in which nothing comes or goes
+abbrev pub quiet : ℕ → ℕ → ℕ → TurnEvent
+quiet worker number now = record {
+  worker = worker;
+  number = number;
+  now = now;
+  stop = None;
+  c = [];
+  t = [];
+  end_c = false;
+  end_t = false;
+  grams = [];
+  came = None;
+  outer = Outer.Nothing;
+  sent_c = 0;
+  sent_t = 0;
+  sent_u = 0;
+  shut_c = false;
+  shut_t = false;
+  idle = [];
+  full = [];
+  fault = None;
+  unwritten = false;
+  memory = false;
+  next = NextMark.Going;
+}
+
+-- the world behind the first events, and those that are left
+abbrev pub past : ℕ → Option World → List Event → Option World × List Event
+past zero w es = (w, es)
+past (suc n) w [] = (w, [])
+past (suc n) w (e ∷ es) = past n (w >>= λ x. step x e) es
+
+abbrev pub from_there : Option World × List Event → List ℕ
+from_there x = with_ends (traced x.0 x.1)
+
+-- the text of all but the first events, and the ends
+abbrev pub told : List User → ℕ → ℕ → List Event → List ℕ
+told users workers skip es = from_there (past skip (Some (start users 256 workers)) es)
+
+abbrev pub logged : List User → ℕ → List Event → Option (List ℕ)
+logged users workers es = option_map (λ w. log_text w.h) (run users 256 workers es)
+
+abbrev pub p1 : List ℕ
+p1 = 5 ∷ 1 ∷ 0 ∷ []
+
+abbrev pub q1 : List ℕ
+q1 = 5 ∷ 1 ∷ 0 ∷ 1 ∷ 0xC6 ∷ 0x33 ∷ 0x64 ∷ 0x0A ∷ 0 ∷ 0x50 ∷ []
+
+-- the text of all but the first events, without the ends
+abbrev pub turns_there : Option World × List Event → List ℕ
+turns_there x = (traced x.0 x.1).0
+
+abbrev pub turns_told : List User → ℕ → ℕ → List Event → List ℕ
+turns_told users workers skip es = turns_there (past skip (Some (start users 256 workers)) es)

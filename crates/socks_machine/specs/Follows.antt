@@ -1,0 +1,202 @@
+-- Which events a script allows, as a relation: its lines in order, and then the closing rounds. (`Script` has the same as
+-- tests that compute.)
+use Rattle.std.specs.Prelude.{ℕ, zero, suc, ◌≡◌, ◌≢◌, ◌↔◌, ◌<◌, Bool, true, false, ◌&&◌, not, if◌then◌else◌, IsTrue, Option, Some, None, List, [], ◌∷◌, ◌++◌, length, map, filter, All, Contains, IfSome, is_some}
+use Rattle.std.specs.List.{list_any}
+use mathlib.Core.List.{IsPrefix}
+use Rattle.addr_pattern.specs.declared.endpoint.Endpoint.{Endpoint}
+use Rattle.conf_model.specs.declared.config.Config.{Config}
+use Rattle.conf_model.specs.declared.user.User.{User}
+use Rattle.socks_machine.specs.declared.cause.StopBy.{StopBy}
+use Rattle.socks_machine.specs.declared.record.Gram.{Gram}
+use Rattle.socks_machine.specs.declared.record.Record.{Record}
+use Rattle.socks_machine.specs.declared.world.Object.{Object}
+use Rattle.socks_machine.specs.declared.world.Outer.{Outer}
+use Rattle.socks_machine.specs.declared.world.NextMark.{NextMark}
+use Rattle.socks_machine.specs.declared.world.TurnEvent.{TurnEvent}
+use Rattle.socks_machine.specs.declared.world.Event.{Event}
+use Rattle.socks_machine.specs.declared.world.World.{World}
+use Rattle.socks_machine.specs.Basis.{Basis}
+use Rattle.socks_machine.specs.History.{last_mark}
+use Rattle.socks_machine.specs.Owed.{waiting_for_target, waiting_for_client}
+use Rattle.socks_machine.specs.Phase.{Phase, phase}
+use Rattle.rule_list.specs.Rules.{numbered}
+use Rattle.socks_machine.specs.Script.{ScriptLine, CallKind, Outside, Surroundings, outside_after, change, is_fault, is_silent, is_still, next_in_round, going, without_ends, behind_turn, did, reached_as, first_surroundings}
+use Rattle.socks_machine.specs.Step.{basis_of, step, start, run}
+use Rattle.socks_machine.specs.Taking.{holds, taken, pipe_size, reads_target, reads_client}
+use Rattle.socks_machine.specs.Transcript.{transcript}
+use Rattle.socks_machine.specs.Turn.{quantum, is_link}
+use Rattle.socks_machine.specs.LogText.{log_text}
+use Rattle.std.specs.Prelude.{slice_get}
+
+abbrev pub packet : Gram → Endpoint × List ℕ
+packet d = (d.peer, d.bytes)
+
+-- the outcome that the outside has for the call of the phase behind the takings, or its default; the desk's line is written
+-- or not
+abbrev pub OuterIs : Outside → Phase → Outer → Type 0
+OuterIs o p Outer.Nothing = Unit {0}
+OuterIs o p (Outer.Desk logged) = Unit {0}
+OuterIs o (Phase.Seek name) outer = outer ≡ o.lookup
+OuterIs o (Phase.Reach g) outer = outer ≡ reached_as o g.facts.command
+OuterIs o p outer = ⊥
+
+pub record OuterFits (basis : Basis) (generation : ℕ) (config : Config) (o : Outside) (ev : TurnEvent) (r : Record) : Type 0 where
+  pub behind : Record
+  pub taken' : taken basis generation config.methods ev r ≡ Some behind
+  pub is : OuterIs o (phase basis behind) ev.outer
+
+-- ---- failed calls
+
+-- a call that failed, and of which kind it was
+abbrev pub Failing : Type 0
+Failing = Object × CallKind
+
+-- a write to a link
+abbrev pub writes_link : Failing → Bool
+writes_link (x, CallKind.Writing) = is_link x
+writes_link (x, k) = false
+
+-- The failed calls of a turn. A line names each, and no call that a line names has succeeded. The one that failed first is
+-- among them, and a write to a link is exactly where the turn says so.
+pub record FaultsAre (o : Outside) (ev : TurnEvent) (used : List Failing) : Type 0 where
+  pub named : All (Contains o.faults) used
+  pub undone : All (λ f. did ev f ≡ false) o.faults
+  pub none : ev.fault ≡ None → used ≡ []
+  pub first : IfSome ev.fault (λ x. (k : CallKind) × Contains used (x, k))
+  pub unwritten : IsTrue ev.unwritten ↔ IsTrue (list_any writes_link used)
+
+-- they are used up, and so is the peer that was met
+abbrev pub is_used : List Failing → Failing → Bool
+is_used used f = list_any (is_fault f.0 f.1) used
+
+abbrev pub used_up : Surroundings → TurnEvent → List Failing → Surroundings
+used_up s ev used = change s ev.number (λ o. record o { faults = filter (λ f. not (is_used used f)) o.faults; peer = (if is_some ev.came then None else o.peer) })
+
+abbrev pub surroundings_after : Surroundings → Event → List Failing → Surroundings
+surroundings_after s (Event.Turn ev) used = used_up s ev used
+surroundings_after s e used = s
+
+-- ---- ends
+
+-- the phase that is met behind all that is taken, but for the ends; in Relay fewer bytes of this side wait at the turn's end
+-- than a pipe holds
+pub record Meets (basis : Basis) (generation : ℕ) (config : Config) (ev : TurnEvent) (r : Record) (left : Option Record) (reads : Record → Phase → Bool) (waiting : Basis → Record → ℕ) : Type 0 where
+  pub behind : Record
+  pub taken' : taken basis generation config.methods (without_ends ev) r ≡ Some behind
+  pub read' : IsTrue (reads behind (phase basis behind))
+  pub room : phase basis behind ≡ Phase.Relay → IfSome left (λ x. waiting basis x < pipe_size)
+
+pub record ComesToEnd (arrived there : List ℕ) (ended was : Bool) (part : List ℕ) (Passes Reads : Type 0) : Type 0 where
+  pub stands : ended ≡ true
+  pub unread : was ≡ false
+  pub all : there ≡ arrived
+  pub below : length part < quantum
+  pub passes : Passes
+  pub reads : Reads
+
+-- Without a failed call an end is read exactly where the turn comes to it. A call on another object, or of another kind,
+-- may have failed before it was read, or behind it.
+abbrev pub EndFits : Option Object → Bool → Type 0 → Type 0
+EndFits None read Comes = IsTrue read ↔ Comes
+EndFits (Some x) read Comes = IsTrue read → Comes
+
+-- ---- turns
+
+pub record Allows (s : Surroundings) (w : World) (generation : ℕ) (config : Config) (o : Outside) (ev : TurnEvent) (used : List Failing) (r : Record) : Type 0 where
+  pub moment : ev.now ≡ s.now
+  pub stop' : ev.stop ≡ last_mark w.marks
+  pub ends : ev.next ≢ NextMark.Going
+  pub client : IsPrefix (r.c ++ ev.c) o.c
+  pub target : IsPrefix (r.t ++ ev.t) o.t
+  pub datagrams : IsPrefix (map packet (r.grams ++ ev.grams)) o.grams
+  pub peer : IfSome ev.came (λ p. o.peer ≡ Some p)
+  pub outer' : OuterFits (basis_of w) generation config o ev r
+  pub faults' : FaultsAre o ev used
+  pub client_end : ev.stop ≡ None → EndFits ev.fault ev.end_c (ComesToEnd o.c (r.c ++ ev.c) o.end_c r.end_c ev.c (¬ Contains used (Object.Client, CallKind.Reading))
+      (Meets (basis_of w) generation config ev r (behind_turn w ev) (reads_client (basis_of w) ev.idle ev.full) waiting_for_target))
+  pub target_end : ev.stop ≡ None → EndFits ev.fault ev.end_t (ComesToEnd o.t (r.t ++ ev.t) o.end_t r.end_t ev.t (¬ Contains used (Object.Target, CallKind.Reading))
+      (Meets (basis_of w) generation config ev r (behind_turn w ev) reads_target waiting_for_client))
+  pub client_rests : IsTrue (holds Object.Client ev.idle) → (r.c ++ ev.c ≡ o.c) × (o.end_c ≡ false)
+  pub target_rests : IsTrue (holds Object.Target ev.idle) → (r.t ++ ev.t ≡ o.t) × (o.end_t ≡ false)
+  pub door_rests : IsTrue (holds Object.Door ev.idle) → o.peer ≡ None
+  pub port_rests : IsTrue (holds Object.Port ev.idle) → map packet (r.grams ++ ev.grams) ≡ o.grams
+  pub no_room : All (λ x. IsTrue (holds x o.no_room)) ev.full
+  pub room_c : IsTrue (holds Object.Client o.no_room) → ev.sent_c ≡ 0
+  pub room_t : IsTrue (holds Object.Target o.no_room) → ev.sent_t ≡ 0
+
+pub record IsTurnOf (s : Surroundings) (w : World) (worker a : ℕ) (ev : TurnEvent) (used : List Failing) : Type 0 where
+  pub worker' : ev.worker ≡ worker
+  pub number : ev.number ≡ a
+  pub generation : ℕ
+  pub saw : slice_get w.seen worker ≡ Some generation
+  pub config : Config
+  pub published : numbered w.pubs generation ≡ Some config
+  pub outside : Outside
+  pub there : numbered s.outsides a ≡ Some outside
+  pub begun : Record
+  pub stood : numbered w.records a ≡ Some begun
+  pub allowed : Allows s w generation config outside ev used begun
+
+-- the event of a line that has one, with its failed calls
+abbrev pub IsEventOf : Surroundings → World → ScriptLine → Event → List Failing → Type 0
+IsEventOf s w (ScriptLine.Publish k) e used = e ≡ Event.Publish k
+IsEventOf s w (ScriptLine.See worker) e used = e ≡ Event.See worker (length w.pubs)
+IsEventOf s w (ScriptLine.Open worker a peer local) e used = e ≡ Event.Open worker a peer local s.now
+IsEventOf s w (ScriptLine.Turn worker a) e used = (ev : TurnEvent) × (e ≡ Event.Turn ev) × IsTurnOf s w worker a ev used
+IsEventOf s w ScriptLine.Stop e used = e ≡ Event.Stop StopBy.Control
+IsEventOf s w line e used = ⊥
+
+-- round after round: whose turn comes in this round, and whether the round was still so far
+pub data Rounds : Surroundings → World → List ℕ → Bool → List Event → Type 0 where
+  over : {s : Surroundings} {w : World} {still : Bool} → Rounds s w [] still []
+  round : {s : Surroundings} {w new : World} {n : ℕ} {ns : List ℕ} {still : Bool} {ev : TurnEvent} {es : List Event} (used : List Failing)
+      → IsTurnOf s w 1 n ev used → step w (Event.Turn ev) ≡ Some new
+      → Rounds (used_up s ev used) new (next_in_round ns (still && is_still ev) (Some new)).0 (next_in_round ns (still && is_still ev) (Some new)).1 es
+      → Rounds s w (n ∷ ns) still (Event.Turn ev ∷ es)
+
+-- behind the last line worker 1 sees, if anything was published, and the rounds begin
+pub data Closing : Surroundings → World → List Event → Type 0 where
+  nothing : {s : Surroundings} {w : World} → w.pubs ≡ [] → Closing s w []
+  closes : {s : Surroundings} {w new : World} {es : List Event} → w.pubs ≢ [] → step w (Event.See 1 (length w.pubs)) ≡ Some new
+      → Rounds s new (going new) true es → Closing s w (Event.See 1 (length w.pubs) ∷ es)
+
+-- the first events are those of the lines, the others those of the closing rounds
+pub data Follows : Surroundings → World → List ScriptLine → List Event → List Event → Type 0 where
+  ends : {s : Surroundings} {w : World} {rounds : List Event} → Closing s w rounds → Follows s w [] [] rounds
+  silent : {s : Surroundings} {w : World} {line : ScriptLine} {lines : List ScriptLine} {es rounds : List Event}
+      → is_silent w line ≡ true → Follows (outside_after s line) w lines es rounds → Follows s w (line ∷ lines) es rounds
+  happens : {s : Surroundings} {w new : World} {line : ScriptLine} {lines : List ScriptLine} {e : Event} {es rounds : List Event} (used : List Failing)
+      → is_silent w line ≡ false → IsEventOf (outside_after s line) w line e used → step w e ≡ Some new
+      → Follows (surroundings_after (outside_after s line) e used) new lines es rounds → Follows s w (line ∷ lines) (e ∷ es) rounds
+
+-- ---- the world in which a script begins
+
+-- the users of the script, none where no line gives them
+abbrev pub users_of : List ScriptLine → List User
+users_of [] = []
+users_of (ScriptLine.UsersAre users ∷ lines) = users
+users_of (line ∷ lines) = users_of lines
+
+-- the number of workers stands before every other line, else it is 1
+abbrev pub workers_of : List ScriptLine → ℕ
+workers_of (ScriptLine.Workers n ∷ lines) = n
+workers_of lines = 1
+
+-- a desk of `replay` is never crowded
+abbrev pub opens_of : List ScriptLine → ℕ
+opens_of [] = 0
+opens_of (ScriptLine.Open worker a peer local ∷ lines) = suc (opens_of lines)
+opens_of (line ∷ lines) = opens_of lines
+
+abbrev pub begins : List ScriptLine → World
+begins lines = start (users_of lines) (opens_of lines) (workers_of lines)
+
+-- What a replay has written where it was done: the transcript of events that the script allows, and their log.
+pub record IsReplay (lines : List ScriptLine) (out log : List ℕ) : Type 0 where
+  pub events : List Event
+  pub rounds : List Event
+  pub follows : Follows first_surroundings (begins lines) lines events rounds
+  pub world : World
+  pub ran : run (users_of lines) (opens_of lines) (workers_of lines) (events ++ rounds) ≡ Some world
+  pub out' : out ≡ transcript (begins lines) events rounds
+  pub log' : log ≡ log_text world.h

@@ -1,0 +1,14 @@
+//! The definitions of the machine: one association as a record, what happens to it, and what is owed.
+#![tactic(auto)]
+
+mod cause;
+mod fine;
+mod lines;
+mod record;
+mod world;
+
+pub use cause::{Cause, ListKind, Standing, StopBy};
+pub use fine::{Act, FineStep};
+pub use lines::{CloseLine, GrantLine, Line, OpenLine, PeerLine, Said, Shut};
+pub use record::{Chosen, Decision, Gram, Record};
+pub use world::{Event, NextMark, Object, Outer, TurnEvent, World};

@@ -1,0 +1,95 @@
+use addr_pattern::{Addr, Endpoint};
+use crate::cause::StopBy;
+use conf_model::{Config, User};
+use crate::lines::Line;
+use conf_text::{List, Text};
+use crate::record::{Gram, Record};
+
+/// Something outside that is read or written.
+#[derive(Clone, Copy, PartialEq, Eq, Debug)]
+pub enum Object {
+    Client,
+    Target,
+    Door,
+    Port,
+}
+
+/// How the outer call of a turn came out.
+#[derive(Clone, Copy, PartialEq, Eq, Debug)]
+pub enum Outer {
+    Nothing,
+    Desk { logged: bool },
+    Looked(Option<Addr>),
+    Up(Endpoint),
+    Refused,
+    HostUnreachable,
+    NetUnreachable,
+    Failed,
+}
+
+/// How a turn ended.
+#[derive(Clone, Copy, PartialEq, Eq, Debug)]
+pub enum NextMark {
+    Going,
+    Wait,
+    Again,
+    Done,
+}
+
+/// One turn of one worker on one association.
+#[derive(Drop)]
+pub struct TurnEvent {
+    pub worker: u32,
+    pub number: u64,
+    pub now: u64,
+    pub stop: Option<StopBy>,
+    pub c: Text,
+    pub t: Text,
+    pub end_c: bool,
+    pub end_t: bool,
+    pub grams: List<Gram>,
+    pub came: Option<Endpoint>,
+    pub outer: Outer,
+    pub sent_c: u64,
+    pub sent_t: u64,
+    pub sent_u: u64,
+    pub shut_c: bool,
+    pub shut_t: bool,
+    pub idle: List<Object>,
+    pub full: List<Object>,
+    pub fault: Option<Object>,
+    pub unwritten: bool,
+    pub memory: bool,
+    pub next: NextMark,
+}
+
+/// What happens.
+#[derive(Drop)]
+pub enum Event {
+    Publish(Config),
+    See {
+        worker: u32,
+        generation: u64,
+    },
+    Open {
+        worker: u32,
+        number: u64,
+        peer: Endpoint,
+        local: Endpoint,
+        now: u64,
+    },
+    Stop(StopBy),
+    Turn(TurnEvent),
+}
+
+/// All there is.
+#[derive(Drop)]
+pub struct World {
+    pub users: List<User>,
+    pub cap: u32,
+    pub pubs: List<Config>,
+    pub seen: List<u64>,
+    pub records: List<Record>,
+    pub h: List<Line>,
+    pub marks: List<StopBy>,
+}
