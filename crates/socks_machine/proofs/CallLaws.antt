@@ -113,10 +113,12 @@ nothing-to-target basis r h = ap (λ b. elim b [ true ↦ (view basis r).said ++
 -- What is owed early stays owed, whatever is decided and whatever cause is fixed.
 pub early-grows : (basis : Basis) (r : Record) (ds : List Decision) (cause : Option Cause) (end_c : Bool) → Early r → Grows basis r (record r { decisions = ds; cause = cause; end_c = end_c })
 early-grows basis r ds cause end_c h = record {
-  to_client = (granted_replies_in (view basis x) x (granted ds) ++ ((if relay_began_in (view basis x) x then target_payload_in (view basis x) x else []) ++ refusal_of_in (view basis x) x cause),
-      ap (λ z. z ++ (granted_replies_in (view basis x) x (granted ds) ++ ((if relay_began_in (view basis x) x then target_payload_in (view basis x) x else []) ++ refusal_of_in (view basis x) x cause))) (early-owed basis r h)
-      ∙ arranged ((basis.front).opening r.chosen (view basis r).login_passed) (granted_replies_in (view basis x) x (granted ds))
-      (if relay_began_in (view basis x) x then target_payload_in (view basis x) x else []) (refusal_of_in (view basis x) x cause));
+  to_client = (
+    granted_replies_in (view basis x) x (granted ds) ++ ((if relay_began_in (view basis x) x then target_payload_in (view basis x) x else []) ++ refusal_of_in (view basis x) x cause),
+    ap (λ z. z ++ (granted_replies_in (view basis x) x (granted ds) ++ ((if relay_began_in (view basis x) x then target_payload_in (view basis x) x else []) ++ refusal_of_in (view basis x) x cause))) (early-owed basis r h)
+        ∙ arranged ((basis.front).opening r.chosen (view basis r).login_passed) (granted_replies_in (view basis x) x (granted ds))
+        (if relay_began_in (view basis x) x then target_payload_in (view basis x) x else []) (refusal_of_in (view basis x) x cause),
+  );
   to_target = (owed_to_target basis x, ap (λ (z : List ℕ). z ++ owed_to_target basis x) (nothing-to-target basis r h));
   datagrams = (owed_datagrams basis x, ap (λ (z : List Gram). z ++ owed_datagrams basis x) nothing-to-port);
 }

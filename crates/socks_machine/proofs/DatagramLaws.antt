@@ -56,7 +56,11 @@ port-sent basis grams n m r Phase.Datagrams more h = grind (arith, nat_tests)
 pub takes-sent-u : (basis : Basis) (g n : ℕ) (methods : List Method) (e : Takings) (old a : Record) → Takes basis g methods e old a
     → Takes basis g methods (record e { sent_u = e.sent_u + n }) old a
 takes-sent-u basis g n methods e old a h = record {
-  r1 = h.r1; r2 = h.r2; r3 = h.r3; r4 = h.r4; r5 = h.r5;
+  r1 = h.r1;
+  r2 = h.r2;
+  r3 = h.r3;
+  r4 = h.r4;
+  r5 = h.r5;
   bytes_t = h.bytes_t;
   ends_t = h.ends_t;
   grams = took-too basis (some_in e.grams) (λ r p. reads_port basis e.grams e.sent_u r p && list_all (of_generation g) e.grams) (λ r p. reads_port basis e.grams (e.sent_u + n) r p && list_all (of_generation g) e.grams)
@@ -86,18 +90,22 @@ more-grams : (basis : Basis) (g n : ℕ) (gs : List Gram) (d : Gram) (r2 a : Rec
     → Took basis (some_in (gs ++ d ∷ [])) (λ r p. reads_port basis (gs ++ d ∷ []) n r p && list_all (of_generation g) (gs ++ d ∷ [])) (λ r. record r { grams = r.grams ++ (gs ++ d ∷ []) }) r2
     (settled basis (record a { grams = a.grams ++ d ∷ [] }))
 more-grams basis g n gs d r2 a (inl h) none at one sent =
-    inr (some-in-append gs d [],
-    port-more basis g n gs d r2 (sym (ap (phase basis) h.1) ∙ at) (ap (list_all (of_generation g)) (nothing-in gs h.0)) one
-    (ap (λ (z : List Gram). nat_le (length (owed_for basis r2 z)) (length r2.sent_u + n)) (ap (λ z. r2.grams ++ z) (nothing-in gs h.0) ∙ append-nil r2.grams)
-    ∙ (sym (ap (λ z. nat_le (length (owed_datagrams basis z)) (length z.sent_u + n)) h.1) ∙ sent)),
-    ap (λ (z : Record). let y : Record = record z { grams = z.grams ++ d ∷ [] } in settled basis y) h.1
-    ∙ ap (λ (x : List Gram). let y : Record = record r2 { grams = r2.grams ++ (x ++ d ∷ []) } in settled basis y) (sym (nothing-in gs h.0)))
+    inr (
+      some-in-append gs d [],
+      port-more basis g n gs d r2 (sym (ap (phase basis) h.1) ∙ at) (ap (list_all (of_generation g)) (nothing-in gs h.0)) one
+          (ap (λ (z : List Gram). nat_le (length (owed_for basis r2 z)) (length r2.sent_u + n)) (ap (λ z. r2.grams ++ z) (nothing-in gs h.0) ∙ append-nil r2.grams)
+          ∙ (sym (ap (λ z. nat_le (length (owed_datagrams basis z)) (length z.sent_u + n)) h.1) ∙ sent)),
+      ap (λ (z : Record). let y : Record = record z { grams = z.grams ++ d ∷ [] } in settled basis y) h.1
+          ∙ ap (λ (x : List Gram). let y : Record = record r2 { grams = r2.grams ++ (x ++ d ∷ []) } in settled basis y) (sym (nothing-in gs h.0)),
+    )
 more-grams basis g n gs d r2 a (inr h) none at one sent =
-    inr (some-in-append gs d [],
-    port-more basis g n gs d r2 (sym (ap (phase basis) a-is) ∙ at) (in-datagrams basis gs n r2 (phase basis r2) (list_all (of_generation g) gs) h.1) one
-    (sym (ap (λ z. nat_le (length (owed_datagrams basis z)) (length z.sent_u + n)) a-is) ∙ sent),
-    ap (λ (z : Record). let y : Record = record z { grams = z.grams ++ d ∷ [] } in settled basis y) a-is
-    ∙ ap (λ (x : List Gram). let y : Record = record r2 { grams = x } in settled basis y) (append_assoc r2.grams gs (d ∷ [])))
+    inr (
+      some-in-append gs d [],
+      port-more basis g n gs d r2 (sym (ap (phase basis) a-is) ∙ at) (in-datagrams basis gs n r2 (phase basis r2) (list_all (of_generation g) gs) h.1) one
+          (sym (ap (λ z. nat_le (length (owed_datagrams basis z)) (length z.sent_u + n)) a-is) ∙ sent),
+      ap (λ (z : Record). let y : Record = record z { grams = z.grams ++ d ∷ [] } in settled basis y) a-is
+          ∙ ap (λ (x : List Gram). let y : Record = record r2 { grams = x } in settled basis y) (append_assoc r2.grams gs (d ∷ [])),
+    )
   where
     a-is : a ≡ record r2 { grams = r2.grams ++ gs }
     a-is = h.2 ∙ settled-none basis (record r2 { grams = r2.grams ++ gs }) (sym (ap (λ z. z.cause) h.2) ∙ none)
@@ -108,7 +116,11 @@ pub takes-gram : (basis : Basis) (g : ℕ) (methods : List Method) (e : Takings)
     → nat_le (length (owed_datagrams basis a)) (length a.sent_u + e.sent_u) ≡ true
     → Takes basis g methods (record e { grams = e.grams ++ d ∷ [] }) old (settled basis (record a { grams = a.grams ++ d ∷ [] }))
 takes-gram basis g methods e old a d h no_came no_c open_c none at one sent = record {
-  r1 = h.r1; r2 = h.r2; r3 = x; r4 = x; r5 = x;
+  r1 = h.r1;
+  r2 = h.r2;
+  r3 = x;
+  r4 = x;
+  r5 = x;
   bytes_t = h.bytes_t;
   ends_t = h.ends_t;
   grams = more-grams basis g e.sent_u e.grams d h.r2 a

@@ -28,12 +28,25 @@ facts = record { peer = at4 1 1; local = at4 2 2; command = Command.Connect; ver
 
 abbrev r : Record
 r = record {
-  number = 1; peer = at4 1 1; local = at4 2 2; since = 0;
+  number = 1;
+  peer = at4 1 1;
+  local = at4 2 2;
+  since = 0;
   c = 5 ∷ 1 ∷ 0 ∷ 5 ∷ 1 ∷ 0 ∷ 1 ∷ 0 ∷ 0 ∷ 0 ∷ 9 ∷ 0 ∷ 80 ∷ [];
-  t = []; sent_c = []; sent_t = []; end_c = false; end_t = false; shut_c = false; shut_t = false;
+  t = [];
+  sent_c = [];
+  sent_t = [];
+  end_c = false;
+  end_t = false;
+  shut_c = false;
+  shut_t = false;
   chosen = Some (record { generation = 1; method = 0 });
   decisions = Decision.Opened 1 (Some 1) None ∷ Decision.Granted 1 facts (Verdict.Pass 1 1) None None ∷ Decision.Reached (at4 9 80) (Some (at4 3 3)) ∷ [];
-  grams = []; sent_u = []; cause = None; at_close = None; done = false;
+  grams = [];
+  sent_u = [];
+  cause = None;
+  at_close = None;
+  done = false;
 }
 
 abbrev s : Context

@@ -71,8 +71,14 @@ pub relay-finish-c : (s : Context) (old : Record) (e : TurnEvent) (r : Record) �
     (record r { shut_c = true; cause = Some Cause.Finished })
 relay-finish-c s old e r h open_c shut_t ends_c ends_t all_c all_t =
     let k = reading-turn s old e a r (relaying-reads s old e r h) in
-    record { going = k.going; takes = k.takes; calls = k.calls; faults = k.faults; sendings = k.sendings;
-      shuts = ap (λ g. guard g (Some (settled s.basis x))) guarded ∙ ap Some (fixes ∙ ap (λ (z : Record). let y : Record = record z { shut_c = true; cause = Some Cause.Finished } in y) (sym h.is)) }
+    record {
+      going = k.going;
+      takes = k.takes;
+      calls = k.calls;
+      faults = k.faults;
+      sendings = k.sendings;
+      shuts = ap (λ g. guard g (Some (settled s.basis x))) guarded ∙ ap Some (fixes ∙ ap (λ (z : Record). let y : Record = record z { shut_c = true; cause = Some Cause.Finished } in y) (sym h.is));
+    }
   where
     a : Record
     a = relayed old e.c e.t e.end_c e.end_t
@@ -120,7 +126,10 @@ pub relay-fails : (s : Context) (old : Record) (e : TurnEvent) (r : Record) (o :
     (fix (Some (fault_cause o)) (relayed old e.c e.t e.end_c e.end_t)) (fix (Some (fault_cause o)) r)
 relay-fails s old e r o unwritten h there =
     let k = reading-turn s old e a r (relaying-reads s old e r h) in
-    record { going = k.going; takes = k.takes; calls = k.calls;
+    record {
+      going = k.going;
+      takes = k.takes;
+      calls = k.calls;
       faults = ap (λ b. guard b (Some d)) there;
       sendings = sendings-over s.basis e.sent_c e.sent_t e.sent_u a r d k.sendings (record {
         to_client = ([], append-nil (owed_to_client s.basis a) ∙ sym (relay-owes-caused s old e.c e.t (e.end_c || old.end_c) (e.end_t || old.end_t) d.cause h.facts));
@@ -128,7 +137,8 @@ relay-fails s old e r o unwritten h there =
         datagrams = ([], append-nil (owed_datagrams s.basis a));
       });
       shuts = shuts-are s.basis e (with_sendings d r) may_c (relaying-reads s old e r h).shuts.still.may_t (λ any. stays)
-        ∙ ap Some (ap (fix (Some (fault_cause o))) (sym h.is)) }
+          ∙ ap Some (ap (fix (Some (fault_cause o))) (sym h.is));
+    }
   where
     a : Record
     a = relayed old e.c e.t e.end_c e.end_t
@@ -157,7 +167,10 @@ pub relay-wants : (s : Context) (old : Record) (e : TurnEvent) (r : Record) → 
     (fix (Some Cause.Memory) (relayed old e.c e.t e.end_c e.end_t)) (fix (Some Cause.Memory) r)
 relay-wants s old e r h =
     let k = reading-turn s old e a r (relaying-reads s old e r h) in
-    record { going = k.going; takes = k.takes; calls = inl (h.calm.uncalled, refl);
+    record {
+      going = k.going;
+      takes = k.takes;
+      calls = inl (h.calm.uncalled, refl);
       faults = ap (λ o. with_fault o e.unwritten d) h.calm.unfailed ∙ ap (λ u. guard (not u) (Some d)) h.calm.written;
       sendings = sendings-over s.basis e.sent_c e.sent_t e.sent_u a r d k.sendings (record {
         to_client = ([], append-nil (owed_to_client s.basis a) ∙ sym (relay-owes-caused s old e.c e.t (e.end_c || old.end_c) (e.end_t || old.end_t) d.cause h.facts));
@@ -165,7 +178,8 @@ relay-wants s old e r h =
         datagrams = ([], append-nil (owed_datagrams s.basis a));
       });
       shuts = shuts-are s.basis e (with_sendings d r) may_c (relaying-reads s old e r h).shuts.still.may_t (λ any. stays)
-        ∙ ap Some (ap (fix (Some Cause.Memory)) (sym h.is)) }
+          ∙ ap Some (ap (fix (Some Cause.Memory)) (sym h.is));
+    }
   where
     a : Record
     a = relayed old e.c e.t e.end_c e.end_t

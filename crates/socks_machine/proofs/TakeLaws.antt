@@ -80,12 +80,18 @@ more-c : (basis : Basis) (g : ℕ) (methods : List Method) (e : Takings) (r4 a :
     → a.cause ≡ None → reads_client basis e.idle e.full a (phase basis a) ≡ true
     → Took basis (some_in (e.c ++ b ∷ bs)) (reads_client basis e.idle e.full) (with_client_bytes g methods (e.c ++ b ∷ bs)) r4 (settled basis (with_client_bytes g methods (b ∷ bs) a))
 more-c basis g methods e r4 a b bs (inl h) none reads =
-    inr (some-in-append e.c b bs, subst (λ (z : Record). reads_client basis e.idle e.full z (phase basis z) ≡ true) h.1 reads,
-    ap (λ z. settled basis (with_client_bytes g methods (b ∷ bs) z)) h.1
-    ∙ ap (λ y. settled basis (with_client_bytes g methods (y ++ b ∷ bs) r4)) (sym (nothing-in e.c h.0)))
+    inr (
+      some-in-append e.c b bs,
+      subst (λ (z : Record). reads_client basis e.idle e.full z (phase basis z) ≡ true) h.1 reads,
+      ap (λ z. settled basis (with_client_bytes g methods (b ∷ bs) z)) h.1
+          ∙ ap (λ y. settled basis (with_client_bytes g methods (y ++ b ∷ bs) r4)) (sym (nothing-in e.c h.0)),
+    )
 more-c basis g methods e r4 a b bs (inr h) none reads =
-    inr (some-in-append e.c b bs, h.1,
-    ap (λ z. settled basis (with_client_bytes g methods (b ∷ bs) z)) a-is ∙ ap (settled basis) (bytes-twice g methods e.c (b ∷ bs) r4))
+    inr (
+      some-in-append e.c b bs,
+      h.1,
+      ap (λ z. settled basis (with_client_bytes g methods (b ∷ bs) z)) a-is ∙ ap (settled basis) (bytes-twice g methods e.c (b ∷ bs) r4),
+    )
   where
     a-is : a ≡ with_client_bytes g methods e.c r4
     a-is = h.2 ∙ settled-none basis (with_client_bytes g methods e.c r4) (sym (ap (λ z. z.cause) h.2) ∙ none)
@@ -227,13 +233,19 @@ more-t : (basis : Basis) (t : List ℕ) (old a : Record) (b : ℕ) (bs : List �
     → a.cause ≡ None → reads_target a (phase basis a) ≡ true
     → Took basis (some_in (t ++ b ∷ bs)) reads_target (λ r. record r { t = r.t ++ (t ++ b ∷ bs) }) old (settled basis (record a { t = a.t ++ b ∷ bs }))
 more-t basis t old a b bs (inl h) none reads =
-    inr (some-in-append t b bs, subst (λ (z : Record). reads_target z (phase basis z) ≡ true) h.1 reads,
-    ap (λ (z : Record). let y : Record = record z { t = z.t ++ b ∷ bs } in settled basis y) h.1
-    ∙ ap (λ (x : List ℕ). let y : Record = record old { t = old.t ++ (x ++ b ∷ bs) } in settled basis y) (sym (nothing-in t h.0)))
+    inr (
+      some-in-append t b bs,
+      subst (λ (z : Record). reads_target z (phase basis z) ≡ true) h.1 reads,
+      ap (λ (z : Record). let y : Record = record z { t = z.t ++ b ∷ bs } in settled basis y) h.1
+          ∙ ap (λ (x : List ℕ). let y : Record = record old { t = old.t ++ (x ++ b ∷ bs) } in settled basis y) (sym (nothing-in t h.0)),
+    )
 more-t basis t old a b bs (inr h) none reads =
-    inr (some-in-append t b bs, h.1,
-    ap (λ (z : Record). let y : Record = record z { t = z.t ++ b ∷ bs } in settled basis y) a-is
-    ∙ ap (λ (x : List ℕ). let y : Record = record old { t = x } in settled basis y) (append_assoc old.t t (b ∷ bs)))
+    inr (
+      some-in-append t b bs,
+      h.1,
+      ap (λ (z : Record). let y : Record = record z { t = z.t ++ b ∷ bs } in settled basis y) a-is
+          ∙ ap (λ (x : List ℕ). let y : Record = record old { t = x } in settled basis y) (append_assoc old.t t (b ∷ bs)),
+    )
   where
     a-is : a ≡ record old { t = old.t ++ t }
     a-is = h.2 ∙ settled-none basis (record old { t = old.t ++ t }) (sym (ap (λ z. z.cause) h.2) ∙ none)
@@ -243,7 +255,11 @@ pub takes-t : (basis : Basis) (g : ℕ) (methods : List Method) (e : Takings) (o
     → a.cause ≡ None → reads_target a (phase basis a) ≡ true
     → Takes basis g methods (record e { t = e.t ++ b ∷ bs }) old (settled basis (record a { t = a.t ++ b ∷ bs }))
 takes-t basis g methods e old a b bs h open_t no_grams no_came no_c open_c none reads = record {
-  r1 = x; r2 = x; r3 = x; r4 = x; r5 = x;
+  r1 = x;
+  r2 = x;
+  r3 = x;
+  r4 = x;
+  r5 = x;
   bytes_t = more-t basis e.t old a b bs (subst (λ (z : Record). Took basis (some_in e.t) reads_target (λ r. record r { t = r.t ++ e.t }) old z) (sym a-is) h.bytes_t) none reads;
   ends_t = inl (open_t, refl);
   grams = inl (no_grams, refl);

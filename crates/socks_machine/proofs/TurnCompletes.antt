@@ -112,7 +112,7 @@ guard-from false x y h = cc
 shut-keeps-by : (basis : Basis) (e : TurnEvent) (f r : Record) (b : Bool) → elim b [ true ↦ shut_sides basis e f | false ↦ Some f ] ≡ Some r → with_sendings f r ≡ f
 shut-keeps-by basis e f r true h =
     let k = guard-from ((not e.shut_c || client_may_be_shut basis f) && (not e.shut_t || target_may_be_shut basis f))
-        (settled basis (record f { shut_c = e.shut_c || f.shut_c; shut_t = e.shut_t || f.shut_t })) r h in
+    (settled basis (record f { shut_c = e.shut_c || f.shut_c; shut_t = e.shut_t || f.shut_t })) r h in
     ap (with_sendings f) (sym k.1)
 shut-keeps-by basis e f r false h = ap (with_sendings f) (sym (some-same f r h))
 
@@ -217,7 +217,7 @@ pub open-reading : (s : Context) (old : Record) (e : TurnEvent) (n : TurnResult)
 open-reading s old e n h going unstopped unmet calm unshut_c unshut_t apart owes =
     let k = completes s old e n h going unstopped calm.uncalled owes in
     let d-is : k.d ≡ k.a = sym (some-same k.a k.d (sym (ap (λ o. with_fault o e.unwritten k.a) calm.unfailed ∙ ap (λ u. guard (not u) (Some k.a)) calm.written)
-        ∙ (ap (λ b. with_fault e.fault e.unwritten (with_memory b k.a)) (sym calm.remembers) ∙ k.turn'.faults))) in
+    ∙ (ap (λ b. with_fault e.fault e.unwritten (with_memory b k.a)) (sym calm.remembers) ∙ k.turn'.faults))) in
     let r-is : k.r ≡ with_sendings k.a k.r = some-same k.r (with_sendings k.a k.r) (sym k.turn'.shuts ∙ (ap (λ z. with_shut s.basis e (with_sendings z k.r)) d-is ∙ unshut s.basis e (with_sendings k.a k.r) unshut_c unshut_t)) in
     record {
       a = k.a;

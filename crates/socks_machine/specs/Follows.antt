@@ -20,7 +20,9 @@ use Rattle.socks_machine.specs.History.{last_mark}
 use Rattle.socks_machine.specs.Owed.{waiting_for_target, waiting_for_client}
 use Rattle.socks_machine.specs.Phase.{Phase, phase}
 use Rattle.rule_list.specs.Rules.{numbered}
-use Rattle.socks_machine.specs.Script.{ScriptLine, CallKind, Outside, Surroundings, outside_after, change, is_fault, is_silent, is_still, next_in_round, going, without_ends, behind_turn, did, reached_as, first_surroundings}
+use Rattle.socks_machine.specs.Script.{Outside, Surroundings, outside_after, change, is_fault, is_silent, is_still, next_in_round, going, without_ends, behind_turn, did, reached_as, first_surroundings}
+use Rattle.socks_machine.specs.declared.script.ScriptLine.{ScriptLine}
+use Rattle.socks_machine.specs.declared.script.CallKind.{CallKind}
 use Rattle.socks_machine.specs.Step.{basis_of, step, start, run}
 use Rattle.socks_machine.specs.Taking.{holds, taken, pipe_size, reads_target, reads_client}
 use Rattle.socks_machine.specs.Transcript.{transcript}

@@ -25,35 +25,8 @@ use Rattle.socks_machine.specs.Taking.{◌>>=◌, holds, some_in, pipe_size, tak
 use Rattle.socks_machine.specs.Owed.{waiting_for_target, waiting_for_client}
 use Rattle.conf_model.specs.declared.protocol.Command.{Command}
 use Rattle.socks_machine.specs.Turn.{quantum}
-
--- the calls that a script can make fail
-pub data CallKind : Type 0 where
-  Reading : CallKind
-  Writing : CallKind
-  Shutting : CallKind
-
--- a line behind the first. A call of a door is an accept, of a port a recv (Reading) or a send (Writing)
-pub data ScriptLine : Type 0 where
-  Workers : ℕ → ScriptLine
-  UsersAre : List User → ScriptLine
-  Publish : Config → ScriptLine
-  See : ℕ → ScriptLine
-  Open : ℕ → ℕ → Endpoint → Endpoint → ScriptLine
-  Client : ℕ → List ℕ → ScriptLine
-  Target : ℕ → List ℕ → ScriptLine
-  ClientEnd : ℕ → ScriptLine
-  TargetEnd : ℕ → ScriptLine
-  Lookup : ℕ → Outer → ScriptLine
-  Dial : ℕ → Outer → ScriptLine
-  Door : ℕ → Outer → ScriptLine
-  Peer : ℕ → Endpoint → ScriptLine
-  Port : ℕ → Outer → ScriptLine
-  Datagram : ℕ → Endpoint → List ℕ → ScriptLine
-  Room : ℕ → Object → ℕ → ScriptLine
-  Fault : ℕ → Object → CallKind → ScriptLine
-  Now : ℕ → ScriptLine
-  Turn : ℕ → ℕ → ScriptLine
-  Stop : ScriptLine
+use Rattle.socks_machine.specs.declared.script.CallKind.{CallKind}
+use Rattle.socks_machine.specs.declared.script.ScriptLine.{ScriptLine}
 
 -- what has arrived for an association so far, and how its calls are to come out
 pub record Outside : Type 0 where
@@ -105,20 +78,20 @@ room_for o (suc n) os = filter (λ x. not (object_eq o x)) os
 -- ---- what a line changes outside
 
 abbrev pub outside_after : Surroundings → ScriptLine → Surroundings
-outside_after s (Open w a peer local) = record s { outsides = s.outsides ++ nothing_yet ∷ [] }
-outside_after s (Client a bytes) = change s a (λ o. record o { c = o.c ++ bytes })
-outside_after s (Target a bytes) = change s a (λ o. record o { t = o.t ++ bytes })
-outside_after s (ClientEnd a) = change s a (λ o. record o { end_c = true })
-outside_after s (TargetEnd a) = change s a (λ o. record o { end_t = true })
-outside_after s (Lookup a outer) = change s a (λ o. record o { lookup = outer })
-outside_after s (Dial a outer) = change s a (λ o. record o { dial = outer })
-outside_after s (Door a outer) = change s a (λ o. record o { door = outer })
-outside_after s (Peer a peer) = change s a (λ o. record o { peer = Some peer })
-outside_after s (Port a outer) = change s a (λ o. record o { port = outer })
-outside_after s (Datagram a from bytes) = change s a (λ o. record o { grams = o.grams ++ (from, bytes) ∷ [] })
-outside_after s (Room a object n) = change s a (λ o. record o { no_room = room_for object n o.no_room })
-outside_after s (Fault a object kind) = change s a (λ o. record o { faults = o.faults ++ (object, kind) ∷ [] })
-outside_after s (Now n) = record s { now = n }
+outside_after s (ScriptLine.Open w a peer local) = record s { outsides = s.outsides ++ nothing_yet ∷ [] }
+outside_after s (ScriptLine.Client a bytes) = change s a (λ o. record o { c = o.c ++ bytes })
+outside_after s (ScriptLine.Target a bytes) = change s a (λ o. record o { t = o.t ++ bytes })
+outside_after s (ScriptLine.ClientEnd a) = change s a (λ o. record o { end_c = true })
+outside_after s (ScriptLine.TargetEnd a) = change s a (λ o. record o { end_t = true })
+outside_after s (ScriptLine.Lookup a outer) = change s a (λ o. record o { lookup = outer })
+outside_after s (ScriptLine.Dial a outer) = change s a (λ o. record o { dial = outer })
+outside_after s (ScriptLine.Door a outer) = change s a (λ o. record o { door = outer })
+outside_after s (ScriptLine.Peer a peer) = change s a (λ o. record o { peer = Some peer })
+outside_after s (ScriptLine.Port a outer) = change s a (λ o. record o { port = outer })
+outside_after s (ScriptLine.Datagram a from bytes) = change s a (λ o. record o { grams = o.grams ++ (from, bytes) ∷ [] })
+outside_after s (ScriptLine.Room a object n) = change s a (λ o. record o { no_room = room_for object n o.no_room })
+outside_after s (ScriptLine.Fault a object kind) = change s a (λ o. record o { faults = o.faults ++ (object, kind) ∷ [] })
+outside_after s (ScriptLine.Now n) = record s { now = n }
 outside_after s _ = s
 
 -- ---- which turns an outside allows
@@ -157,9 +130,9 @@ outer_is (Outer.Desk logged) wanted = true
 outer_is outer wanted = outer_eq outer wanted
 
 abbrev pub is_fault : Object → CallKind → Object × CallKind → Bool
-is_fault o Reading (x, Reading) = object_eq o x
-is_fault o Writing (x, Writing) = object_eq o x
-is_fault o Shutting (x, Shutting) = object_eq o x
+is_fault o CallKind.Reading (x, CallKind.Reading) = object_eq o x
+is_fault o CallKind.Writing (x, CallKind.Writing) = object_eq o x
+is_fault o CallKind.Shutting (x, CallKind.Shutting) = object_eq o x
 is_fault o _ _ = false
 
 abbrev pub is_due : Outside → Object → CallKind → Bool
@@ -184,9 +157,9 @@ was_shut ev Object.Target = ev.shut_t
 was_shut ev _ = false
 
 abbrev pub did : TurnEvent → Object × CallKind → Bool
-did ev (o, Reading) = was_read ev o
-did ev (o, Writing) = was_written ev o
-did ev (o, Shutting) = was_shut ev o
+did ev (o, CallKind.Reading) = was_read ev o
+did ev (o, CallKind.Writing) = was_written ev o
+did ev (o, CallKind.Shutting) = was_shut ev o
 
 -- the first call of this kind on this object behind the line fails, so none of the turn succeeded
 abbrev pub fails : Outside → TurnEvent → Object → CallKind → Bool
@@ -195,9 +168,9 @@ fails o ev x kind = is_due o x kind && not (did ev (x, kind))
 -- which kind of call it was that failed first
 abbrev pub failed_kind : Outside → TurnEvent → Object → Option CallKind
 failed_kind o ev x =
-    if ev.unwritten && fails o ev x Writing then Some Writing
-    else (if fails o ev x Reading then Some Reading
-    else (if fails o ev x Shutting then Some Shutting else (if fails o ev x Writing then Some Writing else None)))
+    if ev.unwritten && fails o ev x CallKind.Writing then Some CallKind.Writing
+    else (if fails o ev x CallKind.Reading then Some CallKind.Reading
+    else (if fails o ev x CallKind.Shutting then Some CallKind.Shutting else (if fails o ev x CallKind.Writing then Some CallKind.Writing else None)))
 
 abbrev pub fault_in : Outside → TurnEvent → Option (Object × CallKind)
 fault_in o ev = option_and_then (λ x. option_map (λ k. (x, k)) (failed_kind o ev x)) ev.fault
@@ -209,7 +182,7 @@ fault_is o ev (Some x) = is_some (failed_kind o ev x) && not (list_any (did ev) 
 -- a read of this side failed
 abbrev pub read_failed : Object → Option (Object × CallKind) → Bool
 read_failed o None = false
-read_failed o (Some (x, Reading)) = object_eq o x
+read_failed o (Some (x, CallKind.Reading)) = object_eq o x
 read_failed o (Some (x, _)) = false
 
 abbrev pub iff : Bool → Bool → Bool
@@ -364,11 +337,11 @@ closing s w (k ∷ ks) es = false
 
 -- the event of a line that has one
 abbrev pub is_event_of : Surroundings → World → ScriptLine → Event → Bool
-is_event_of s w (See worker) (Event.See v generation) = (worker == v) && (generation == length w.pubs)
-is_event_of s w (Open worker a peer local) (Event.Open v b peer' local' now) =
+is_event_of s w (ScriptLine.See worker) (Event.See v generation) = (worker == v) && (generation == length w.pubs)
+is_event_of s w (ScriptLine.Open worker a peer local) (Event.Open v b peer' local' now) =
     (worker == v) && (a == b) && endpoint_eq peer peer' && endpoint_eq local local' && (now == s.now)
-is_event_of s w (Turn worker a) (Event.Turn ev) = is_turn s w worker a ev
-is_event_of s w Stop (Event.Stop StopBy.Control) = true
+is_event_of s w (ScriptLine.Turn worker a) (Event.Turn ev) = is_turn s w worker a ev
+is_event_of s w ScriptLine.Stop (Event.Stop StopBy.Control) = true
 is_event_of s w _ e = false
 
 abbrev pub surroundings_after : Surroundings → Event → Surroundings
@@ -377,11 +350,11 @@ surroundings_after s e = s
 
 -- a line without an event: it changes the outside alone, or is a turn on an association that has ended
 abbrev pub is_silent : World → ScriptLine → Bool
-is_silent w (Publish k) = false
-is_silent w (See worker) = false
-is_silent w (Open worker a peer local) = false
-is_silent w (Turn worker a) = is_over (numbered w.records a)
-is_silent w Stop = false
+is_silent w (ScriptLine.Publish k) = false
+is_silent w (ScriptLine.See worker) = false
+is_silent w (ScriptLine.Open worker a peer local) = false
+is_silent w (ScriptLine.Turn worker a) = is_over (numbered w.records a)
+is_silent w ScriptLine.Stop = false
 is_silent w line = true
 
 -- the events are the script's lines in order, and then the closing rounds. A published text is compared by its reading,
@@ -389,7 +362,7 @@ is_silent w line = true
 abbrev pub follows : Surroundings → Option World → List ScriptLine → List Event → Bool
 follows s None lines es = false
 follows s (Some w) [] es = closing s w w.pubs es
-follows s (Some w) (Publish k ∷ lines) (Event.Publish k' ∷ es) = follows s (step w (Event.Publish k)) lines es
+follows s (Some w) (ScriptLine.Publish k ∷ lines) (Event.Publish k' ∷ es) = follows s (step w (Event.Publish k)) lines es
 follows s (Some w) (line ∷ lines) [] = is_silent w line && follows (outside_after s line) (Some w) lines []
 follows s (Some w) (line ∷ lines) (e ∷ es) =
     elim (is_silent w line) [

@@ -1,8 +1,8 @@
-use addr_pattern::{Addr, Endpoint};
 use crate::cause::StopBy;
+use crate::world::Object;
+use addr_pattern::{Addr, Endpoint};
 use conf_model::{Config, User};
 use conf_text::{List, Text};
-use crate::world::Object;
 
 /// One call on a link, a door, a port or the net, with its outcome.
 #[derive(Drop)]

@@ -5,10 +5,12 @@ mod cause;
 mod fine;
 mod lines;
 mod record;
+mod script;
 mod world;
 
 pub use cause::{Cause, ListKind, Standing, StopBy};
 pub use fine::{Act, FineStep};
 pub use lines::{CloseLine, GrantLine, Line, OpenLine, PeerLine, Said, Shut};
 pub use record::{Chosen, Decision, Gram, Record};
+pub use script::{CallKind, ScriptLine};
 pub use world::{Event, NextMark, Object, Outer, TurnEvent, World};

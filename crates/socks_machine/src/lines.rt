@@ -1,5 +1,5 @@
-use addr_pattern::Endpoint;
 use crate::cause::{Cause, ListKind, Standing, StopBy};
+use addr_pattern::Endpoint;
 use rule_list::{Facts, Verdict};
 
 /// A client came.

@@ -1,5 +1,5 @@
-use addr_pattern::{Addr, Endpoint, Name};
 use crate::cause::Cause;
+use addr_pattern::{Addr, Endpoint, Name};
 use conf_text::{List, Text};
 use rule_list::{Facts, Verdict};
 

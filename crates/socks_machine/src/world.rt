@@ -1,9 +1,9 @@
-use addr_pattern::{Addr, Endpoint};
 use crate::cause::StopBy;
-use conf_model::{Config, User};
 use crate::lines::Line;
-use conf_text::{List, Text};
 use crate::record::{Gram, Record};
+use addr_pattern::{Addr, Endpoint};
+use conf_model::{Config, User};
+use conf_text::{List, Text};
 
 /// Something outside that is read or written.
 #[derive(Clone, Copy, PartialEq, Eq, Debug)]

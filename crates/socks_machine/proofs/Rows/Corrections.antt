@@ -9,7 +9,7 @@ use Rattle.socks_machine.specs.declared.world.NextMark.{NextMark}
 use Rattle.socks_machine.specs.declared.world.Event.{Event}
 use Rattle.socks_machine.specs.Fine.{Coarse, coarse}
 use Rattle.socks_machine.specs.Follows.{users_of, workers_of, opens_of}
-use Rattle.socks_machine.specs.Script.{ScriptLine}
+use Rattle.socks_machine.specs.declared.script.ScriptLine.{ScriptLine}
 use Rattle.socks_machine.specs.Step.{run}
 use Rattle.socks_machine.proofs.Rows.Given.{k1, quiet, client_at, local_at, p1, q1, abc_user}
 

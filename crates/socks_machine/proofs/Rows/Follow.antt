@@ -7,7 +7,9 @@ use Rattle.socks_machine.specs.declared.world.NextMark.{NextMark}
 use Rattle.socks_machine.specs.declared.world.TurnEvent.{TurnEvent}
 use Rattle.socks_machine.specs.declared.world.Event.{Event}
 use Rattle.socks_machine.specs.Follows.{Follows, Closing, Rounds, Failing, begins}
-use Rattle.socks_machine.specs.Script.{ScriptLine, CallKind, first_surroundings, follows, did}
+use Rattle.socks_machine.specs.Script.{first_surroundings, follows, did}
+use Rattle.socks_machine.specs.declared.script.ScriptLine.{ScriptLine}
+use Rattle.socks_machine.specs.declared.script.CallKind.{CallKind}
 use Rattle.socks_machine.specs.Taking.{holds}
 use Rattle.socks_machine.proofs.Rows.Given.{k1, quiet, client_at, local_at}
 
@@ -47,23 +49,77 @@ allowed =
     Follows.happens [] refl refl refl
     (Follows.happens [] refl refl refl
     (Follows.happens [] refl refl refl
-    (Follows.happens [] refl (ev1, refl, record {
-      worker' = refl; number = refl; generation = 1; saw = refl; config = k1; published = refl; outside = _; there = refl; begun = _; stood = refl;
-      allowed = record {
-        moment = refl; stop' = refl; ends = λ h. cc; client = (_, refl); target = (_, refl); datagrams = (_, refl); peer = tt; outer' = record { behind = _; taken' = refl; is = tt };
-        faults' = record { named = none_of (Contains []); undone = none_of (λ f. did ev1 f ≡ false); none = λ h. refl; first = tt; unwritten = (λ h. h, λ h. h) };
-        client_end = λ h. (λ x. cc, λ c. let e : false ≡ true = c.stands in cc); target_end = λ h. (λ x. cc, λ c. let e : false ≡ true = c.stands in cc);
-        client_rests = λ h. cc; target_rests = λ h. cc; door_rests = λ h. cc; port_rests = λ h. cc; no_room = none_of (λ x. IsTrue (holds x [])); room_c = λ h. refl; room_t = λ h. refl;
-      };
-    }) refl
+    (Follows.happens [] refl (
+      ev1,
+      refl,
+      record {
+        worker' = refl;
+        number = refl;
+        generation = 1;
+        saw = refl;
+        config = k1;
+        published = refl;
+        outside = _;
+        there = refl;
+        begun = _;
+        stood = refl;
+        allowed = record {
+          moment = refl;
+          stop' = refl;
+          ends = λ h. cc;
+          client = (_, refl);
+          target = (_, refl);
+          datagrams = (_, refl);
+          peer = tt;
+          outer' = record { behind = _; taken' = refl; is = tt };
+          faults' = record { named = none_of (Contains []); undone = none_of (λ f. did ev1 f ≡ false); none = λ h. refl; first = tt; unwritten = (λ h. h, λ h. h) };
+          client_end = λ h. (λ x. cc, λ c. let e : false ≡ true = c.stands in cc);
+          target_end = λ h. (λ x. cc, λ c. let e : false ≡ true = c.stands in cc);
+          client_rests = λ h. cc;
+          target_rests = λ h. cc;
+          door_rests = λ h. cc;
+          port_rests = λ h. cc;
+          no_room = none_of (λ x. IsTrue (holds x []));
+          room_c = λ h. refl;
+          room_t = λ h. refl;
+        };
+      },
+    ) refl
     (Follows.silent refl
-    (Follows.happens ((Object.Client, CallKind.Reading) ∷ []) refl (ev2, refl, record {
-      worker' = refl; number = refl; generation = 1; saw = refl; config = k1; published = refl; outside = _; there = refl; begun = _; stood = refl;
-      allowed = record {
-        moment = refl; stop' = refl; ends = λ h. cc; client = (_, refl); target = (_, refl); datagrams = (_, refl); peer = tt; outer' = record { behind = _; taken' = refl; is = tt };
-        faults' = record { named = named; undone = undone; none = λ h. cc; first = (CallKind.Reading, (0, omega arith, refl)); unwritten = (λ h. h, λ h. h) };
-        client_end = λ h x. cc; target_end = λ h x. cc;
-        client_rests = λ h. cc; target_rests = λ h. cc; door_rests = λ h. cc; port_rests = λ h. cc; no_room = none_of (λ x. IsTrue (holds x [])); room_c = λ h. refl; room_t = λ h. refl;
-      };
-    }) refl
+    (Follows.happens ((Object.Client, CallKind.Reading) ∷ []) refl (
+      ev2,
+      refl,
+      record {
+        worker' = refl;
+        number = refl;
+        generation = 1;
+        saw = refl;
+        config = k1;
+        published = refl;
+        outside = _;
+        there = refl;
+        begun = _;
+        stood = refl;
+        allowed = record {
+          moment = refl;
+          stop' = refl;
+          ends = λ h. cc;
+          client = (_, refl);
+          target = (_, refl);
+          datagrams = (_, refl);
+          peer = tt;
+          outer' = record { behind = _; taken' = refl; is = tt };
+          faults' = record { named = named; undone = undone; none = λ h. cc; first = (CallKind.Reading, (0, omega arith, refl)); unwritten = (λ h. h, λ h. h) };
+          client_end = λ h x. cc;
+          target_end = λ h x. cc;
+          client_rests = λ h. cc;
+          target_rests = λ h. cc;
+          door_rests = λ h. cc;
+          port_rests = λ h. cc;
+          no_room = none_of (λ x. IsTrue (holds x []));
+          room_c = λ h. refl;
+          room_t = λ h. refl;
+        };
+      },
+    ) refl
     (Follows.ends (Closing.closes (λ h. cc) refl Rounds.over)))))))

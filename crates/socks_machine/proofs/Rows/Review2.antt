@@ -17,7 +17,9 @@ use Rattle.socks_machine.specs.declared.world.TurnEvent.{TurnEvent}
 use Rattle.socks_machine.specs.declared.world.Event.{Event}
 use Rattle.socks_machine.specs.declared.world.World.{World}
 use Rattle.std.specs.Prelude.{is_some}
-use Rattle.socks_machine.specs.Script.{ScriptLine, CallKind, follows, first_surroundings}
+use Rattle.socks_machine.specs.Script.{follows, first_surroundings}
+use Rattle.socks_machine.specs.declared.script.ScriptLine.{ScriptLine}
+use Rattle.socks_machine.specs.declared.script.CallKind.{CallKind}
 use Rattle.socks_machine.specs.Step.{run, start}
 use Rattle.socks_machine.proofs.Rows.Given.{k1, config, client_rule, socks_rule, route, proxy4, proxy5, any, net, quiet, told, turns_told, logged, at4, at6, client_at, local_at, abc_user}
 

@@ -4,7 +4,9 @@ use Rattle.socks_machine.specs.declared.world.Object.{Object}
 use Rattle.socks_machine.specs.declared.world.Outer.{Outer}
 use Rattle.socks_machine.specs.declared.world.NextMark.{NextMark}
 use Rattle.socks_machine.specs.declared.world.Event.{Event}
-use Rattle.socks_machine.specs.Script.{ScriptLine, CallKind, follows, first_surroundings}
+use Rattle.socks_machine.specs.Script.{follows, first_surroundings}
+use Rattle.socks_machine.specs.declared.script.ScriptLine.{ScriptLine}
+use Rattle.socks_machine.specs.declared.script.CallKind.{CallKind}
 use Rattle.socks_machine.specs.Step.{start}
 use Rattle.socks_machine.proofs.Rows.Given.{k1, quiet, at4, client_at, local_at}
 
