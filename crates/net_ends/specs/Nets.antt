@@ -1,0 +1,73 @@
+-- What a net tells of its dials.
+use Rattle.std.specs.Prelude.{◌≡◌, ◌≤◌, ℕ, Option, Some, None, List, [], ◌∷◌, ◌++◌}
+use Rattle.addr_pattern.specs.declared.endpoint.Endpoint.{Endpoint}
+use Rattle.net_ends.specs.declared.net.Dialing.{Dialing}
+use Rattle.net_ends.specs.Counts.{Rose}
+use Rattle.net_ends.specs.Told.{Told}
+
+-- how a dial came out
+pub data DialOutcome : Type 0 where
+  CameUp : Endpoint → DialOutcome
+  WasRefused : DialOutcome
+  NoHost : DialOutcome
+  NoNet : DialOutcome
+  Fault : DialOutcome
+
+abbrev pub outcome_of : {L : Type 0} → Dialing L → DialOutcome
+outcome_of (Dialing.Up link local) = CameUp local
+outcome_of Dialing.Refused = WasRefused
+outcome_of Dialing.HostUnreachable = NoHost
+outcome_of Dialing.NetUnreachable = NoNet
+outcome_of Dialing.Failed = Fault
+
+-- a dial, with its outcome
+pub record Dial : Type 0 where
+  pub to : Endpoint
+  pub outcome : DialOutcome
+
+-- what a net of memory tells of its next dial: its outcome, and what the link tells that it gives
+pub record Plan : Type 0 where
+  pub outcome : DialOutcome
+  pub link : Told
+
+-- the dials so far, where it tells, and the plan of the next
+pub record NetTold : Type 0 where
+  pub dials : Option (List Dial)
+  pub plan : Option Plan
+
+abbrev pub dialled : Option (List Dial) → Dial → Option (List Dial)
+dialled None dial = None
+dialled (Some dials) dial = Some (dials ++ dial ∷ [])
+
+-- how often each failure was answered
+pub record DialCounts : Type 0 where
+  pub refused : ℕ
+  pub no_host : ℕ
+  pub no_net : ℕ
+  pub faults : ℕ
+
+pub record DialsLater (old new : DialCounts) : Type 0 where
+  pub refused : old.refused ≤ new.refused
+  pub no_host : old.no_host ≤ new.no_host
+  pub no_net : old.no_net ≤ new.no_net
+  pub faults : old.faults ≤ new.faults
+
+-- the count that an outcome names rose
+abbrev pub DialCause : DialCounts → DialCounts → DialOutcome → Type 0
+DialCause old new (CameUp local) = Unit {0}
+DialCause old new WasRefused = Rose old.refused new.refused
+DialCause old new NoHost = Rose old.no_host new.no_host
+DialCause old new NoNet = Rose old.no_net new.no_net
+DialCause old new Fault = Rose old.faults new.faults
+
+abbrev pub IfUp : {L : Type 0} → Dialing L → (L → Type 0) → Type 0
+IfUp (Dialing.Up link local) p = p link
+IfUp Dialing.Refused p = Unit {0}
+IfUp Dialing.HostUnreachable p = Unit {0}
+IfUp Dialing.NetUnreachable p = Unit {0}
+IfUp Dialing.Failed p = Unit {0}
+
+-- the dial came out as planned
+pub record AsPlanned {L : Type 0} (told : L → Told) (plan : Plan) (dialing : Dialing L) : Type 0 where
+  pub outcome : outcome_of dialing ≡ plan.outcome
+  pub link : IfUp dialing (λ link. told link ≡ plan.link)
