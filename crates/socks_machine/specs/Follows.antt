@@ -27,7 +27,6 @@ use Rattle.socks_machine.specs.Step.{basis_of, step, start, run}
 use Rattle.socks_machine.specs.Taking.{holds, taken, pipe_size, reads_target, reads_client}
 use Rattle.socks_machine.specs.Transcript.{transcript}
 use Rattle.socks_machine.specs.Turn.{quantum, is_link}
-use Rattle.socks_machine.specs.LogText.{log_text}
 use Rattle.std.specs.Prelude.{slice_get}
 
 abbrev pub packet : Gram → Endpoint × List ℕ
@@ -193,12 +192,10 @@ opens_of (line ∷ lines) = opens_of lines
 abbrev pub begins : List ScriptLine → World
 begins lines = start (users_of lines) (opens_of lines) (workers_of lines)
 
--- What a replay has written where it was done: the transcript of events that the script allows, and their log.
-pub record IsReplay (lines : List ScriptLine) (out log : List ℕ) : Type 0 where
+-- What a replay has written where it was done: the transcript of events that the script allows, whose run leaves this world.
+pub record IsReplay (lines : List ScriptLine) (world : World) (out : List ℕ) : Type 0 where
   pub events : List Event
   pub rounds : List Event
   pub follows : Follows first_surroundings (begins lines) lines events rounds
-  pub world : World
   pub ran : run (users_of lines) (opens_of lines) (workers_of lines) (events ++ rounds) ≡ Some world
   pub out' : out ≡ transcript (begins lines) events rounds
-  pub log' : log ≡ log_text world.h

@@ -19,6 +19,7 @@ pub mod Ranges
 pub mod Relaying
 pub mod Replies
 pub mod Script
+pub mod Served
 pub mod Settle
 pub mod Socks
 pub mod Stands
