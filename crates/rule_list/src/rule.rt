@@ -103,8 +103,14 @@ fn allows_user(users: &[Name], user: Option<&Name>) -> bool
     }
     match user {
         None => false,
-        Some(user) => users.iter().any(|allowed| is_same(user, allowed)),
+        Some(user) => lists_user(users, user),
     }
+}
+
+fn lists_user(users: &[Name], user: &Name) -> bool
+    ensures { result ≡ list_any (bytes_eq user.now) users.now }
+{
+    users.iter().any(|listed| is_same(user, listed))
 }
 
 fn is_same(a: &Name, b: &Name) -> bool

@@ -1,7 +1,7 @@
-ghost use Rattle.std.specs.Prelude.{◌≡◌, ◌<◌, ◌≤◌, ◌^◌, length, Some};
+ghost use Rattle.std.specs.Prelude.{◌≡◌, ◌+◌, ◌<◌, ◌^◌, length, position, option_map, IfSome};
 ghost use Rattle.std.specs.Option.{option_copied};
 ghost use Rattle.rule_list.specs.Numbers.{FitsNumbers};
-ghost use Rattle.rule_list.specs.Rules.{first, numbered as numbered_of, first_client as first_client_of, first_socks as first_socks_of, judge as judge_of, judge_socks as judge_socks_of, judge_after_client as judge_after_client_of, route_of, client_rule_passes, socks_passes as socks_passes_of, client_max as client_max_of, socks_max as socks_max_of, client_rule_matches, socks_rule_matches, route_matches};
+ghost use Rattle.rule_list.specs.Rules.{numbered as numbered_of, first_client as first_client_of, first_socks as first_socks_of, judge as judge_of, judge_socks as judge_socks_of, judge_after_client as judge_after_client_of, route_of, client_rule_passes, socks_passes as socks_passes_of, client_max as client_max_of, socks_max as socks_max_of, client_rule_matches, socks_rule_matches, route_matches};
 
 use crate::facts::Facts;
 use crate::rule::{lists_method, matches_client, matches_route, matches_socks};
@@ -20,19 +20,39 @@ fn numbered<T>(items: &List<T>, number: u32) -> Option<&T>
     items.get(number as usize - 1)
 }
 
+/// The number, from 1, of what stands at a place.
+fn number_of(place: Option<usize>) -> Option<u32>
+    requires { IfSome place (λ at. at + 1 < 2 ^ 32) }
+    ensures { result ≡ option_map (λ at. at + 1) place }
+{
+    match place {
+        None => None,
+        Some(at) => Some(at as u32 + 1),
+    }
+}
+
+fn place_of_client(rules: &[ClientRule], peer: &Endpoint, local: &Endpoint) -> Option<usize>
+    ensures value { result ≡ position (client_rule_matches peer.now local.now) rules.now }
+    ensures within { IfSome result (λ place. place < length rules.now) }
+{
+    rules
+        .iter()
+        .position(|rule| matches_client(rule, peer, local))
+}
+
 /// The number of the first client rule that takes the peer and the address at which it came.
 pub fn first_client(config: &Config, peer: &Endpoint, local: &Endpoint) -> Option<u32>
     requires { FitsNumbers config.now }
     ensures { result ≡ first_client_of config.now peer.now local.now }
 {
-    let rules = config.client.as_slice();
-    match rules
-        .iter()
-        .position(|rule| matches_client(rule, peer, local))
-    {
-        None => None,
-        Some(place) => Some(place as u32 + 1),
-    }
+    number_of(place_of_client(config.client.as_slice(), peer, local))
+}
+
+fn place_of_socks(rules: &[SocksRule], facts: &Facts) -> Option<usize>
+    ensures value { result ≡ position (socks_rule_matches facts.now) rules.now }
+    ensures within { IfSome result (λ place. place < length rules.now) }
+{
+    rules.iter().position(|rule| matches_socks(rule, facts))
 }
 
 /// The number of the first socks rule that matches the facts.
@@ -40,11 +60,14 @@ pub fn first_socks(config: &Config, facts: &Facts) -> Option<u32>
     requires { FitsNumbers config.now }
     ensures { result ≡ first_socks_of config.now facts.now }
 {
-    let rules = config.socks.as_slice();
-    match rules.iter().position(|rule| matches_socks(rule, facts)) {
-        None => None,
-        Some(place) => Some(place as u32 + 1),
-    }
+    number_of(place_of_socks(config.socks.as_slice(), facts))
+}
+
+fn place_of_route(routes: &[Route], facts: &Facts) -> Option<usize>
+    ensures value { result ≡ position (route_matches facts.now) routes.now }
+    ensures within { IfSome result (λ place. place < length routes.now) }
+{
+    routes.iter().position(|route| matches_route(route, facts))
 }
 
 /// The number of the first route that matches the facts; none where the command isn't Connect.
@@ -53,13 +76,7 @@ pub fn first_route(config: &Config, facts: &Facts) -> Option<u32>
     ensures { result ≡ route_of config.now facts.now }
 {
     match facts.command {
-        Command::Connect => {
-            let routes = config.routes.as_slice();
-            match routes.iter().position(|route| matches_route(route, facts)) {
-                None => None,
-                Some(place) => Some(place as u32 + 1),
-            }
-        },
+        Command::Connect => { number_of(place_of_route(config.routes.as_slice(), facts)) },
         _ => None,
     }
 }
