@@ -2,5 +2,8 @@
 #![tactic(auto)]
 
 mod call;
+mod desk;
+mod entry;
 
 pub use call::DeskCall;
+pub use desk::Desk;
