@@ -25,12 +25,12 @@ IsApart (e ∷ es) = (standing_in es e.number ≡ Stand.Gone) × IsApart es
 -- the number's entry becomes this
 abbrev pub renewed : ℕ → Live → List Entry → List Entry
 renewed n live [] = []
-renewed n live (e ∷ es) = elim (has_number n e) [ true ↦ record { number = n; live = live } ∷ es | false ↦ e ∷ renewed n live es ]
+renewed n live (e ∷ es) = if has_number n e then record { number = n; live = live } ∷ es else e ∷ renewed n live es
 
 -- the number's entry is taken out
 abbrev pub without : ℕ → List Entry → List Entry
 without n [] = []
-without n (e ∷ es) = elim (has_number n e) [ true ↦ es | false ↦ e ∷ without n es ]
+without n (e ∷ es) = if has_number n e then es else e ∷ without n es
 
 abbrev pub is_live_under : ℕ → ListKind → ℕ → Live → Bool
 is_live_under generation kind rule live = is_under generation kind rule (stand_of_live live)
