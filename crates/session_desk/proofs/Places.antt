@@ -7,6 +7,7 @@ use Rattle.std.proofs.lemmas.Bool.Decides.{nat_tests}
 use Rattle.socks_machine.specs.History.{Stand}
 use Rattle.session_desk.specs.declared.entry.Live.{Live}
 use Rattle.session_desk.specs.declared.entry.Entry.{Entry}
+use Rattle.session_desk.specs.Books.{Book, with_grant, without_entry}
 use Rattle.session_desk.specs.Entries.{stand_of_live, has_number, standing_in, renewed, without}
 
 by_test : (b : Bool) (k n : ℕ) → cond (nat_lt (cond (not b) (1 + k) 0) (suc n)) (Some (cond (not b) (1 + k) 0)) None ≡ cond b (Some 0) (option_map suc (cond (nat_lt k n) (Some k) None))
@@ -58,11 +59,11 @@ pub standing_in-some : (n : ℕ) (es : List Entry) (i : ℕ) (d : Entry) → pos
 standing_in-some n es i d =
     at_place (λ es i. standing_in es n ≡ stand_of_live (get_or es i d).live) n (λ e es h. rw h refl) (λ e es i h before. rw h before) es i
 
-pub set-place : (n : ℕ) (live : Live) (es : List Entry) (i : ℕ) → position (has_number n) es ≡ Some i → slice_set es i (record { number = n; live = live }) ≡ renewed n live es
+set-place : (n : ℕ) (live : Live) (es : List Entry) (i : ℕ) → position (has_number n) es ≡ Some i → slice_set es i (record { number = n; live = live }) ≡ renewed n live es
 set-place n live es i =
     at_place (λ es i. slice_set es i (record { number = n; live = live }) ≡ renewed n live es) n (λ e es h. rw h refl) (λ e es i h before. rw h (ap (λ rest. e ∷ rest) before)) es i
 
-pub remove-place : (n : ℕ) (es : List Entry) (i : ℕ) → position (has_number n) es ≡ Some i → remove es i ≡ without n es
+remove-place : (n : ℕ) (es : List Entry) (i : ℕ) → position (has_number n) es ≡ Some i → remove es i ≡ without n es
 remove-place n es i =
     at_place (λ es i. remove es i ≡ without n es) n (λ e es h. rw h refl) (λ e es i h before. rw h (ap (λ rest. e ∷ rest) before)) es i
 
@@ -77,3 +78,19 @@ without-none n [] h = refl
 without-none n (e ∷ es) h =
     let found = none_behind (has_number n e) (position (has_number n) es) (sym (position-cons (has_number n) e es) ∙ h) in
     rw found.0 (ap (λ rest. e ∷ rest) (without-none n es found.1))
+
+-- ---- the book with such entries, which is seen as the first of two equal ones
+
+pub with_grant-place : (seen b : Book) (n : ℕ) (live : Live) (i : ℕ) → seen ≡ b → position (has_number n) b.entries ≡ Some i
+    → record seen { entries = slice_set seen.entries i (record { number = n; live = live }) } ≡ with_grant b n live
+with_grant-place seen b n live i same found =
+    let P : Book → Type 0 = λ s. record s { entries = slice_set s.entries i (record { number = n; live = live }) } ≡ with_grant b n live in
+    let changed : P b = ap (λ (es : List Entry). let after : Book = record b { entries = es } in after) (set-place n live b.entries i found) in
+    subst P (sym same) changed
+
+pub without_entry-place : (seen b : Book) (n i : ℕ) → seen ≡ b → position (has_number n) b.entries ≡ Some i
+    → record seen { entries = remove seen.entries i } ≡ without_entry b n
+without_entry-place seen b n i same found =
+    let P : Book → Type 0 = λ s. record s { entries = remove s.entries i } ≡ without_entry b n in
+    let changed : P b = ap (λ (es : List Entry). let after : Book = record b { entries = es } in after) (remove-place n b.entries i found) in
+    subst P (sym same) changed

@@ -3,6 +3,7 @@ ghost use Rattle.socks_machine.specs.History.{standing as standing_of, is_log};
 ghost use Rattle.session_desk.specs.Entries.{has_number, standing_in, held_in, renewed, without};
 ghost use Rattle.session_desk.specs.Books.{Book, counted, with_entry, with_grant, without_entry, admitted, opened, full_in, or_full, shut, granted_unless, granted_verdict, granted, closed};
 
+use crate::call::DeskCall;
 use crate::entry::{Entry, Live};
 use conf_text::Memory;
 use rule_list::Verdict;
@@ -101,16 +102,20 @@ impl Desk {
     fn renew(&mut self, number: u64, live: Live)
         ensures { self.new ≡ with_grant self.old number live }
     {
-        if let Some(place) = self.place_of(number) {
-            self.entries[place] = Entry { number, live };
+        match self.place_of(number) {
+            None => {},
+            Some(place) => self.entries[place] = Entry { number, live },
         }
     }
 
     fn take_out(&mut self, number: u64)
         ensures { self.new ≡ without_entry self.old number }
     {
-        if let Some(place) = self.place_of(number) {
-            self.entries.remove(place);
+        match self.place_of(number) {
+            None => {},
+            Some(place) => {
+                self.entries.remove(place);
+            },
         }
     }
 
@@ -124,6 +129,7 @@ impl Desk {
     fn admit(&mut self, number: u64, pass: bool) -> Said
         ensures said { result ≡ (admitted self.old number pass).said }
         ensures book { self.new ≡ (admitted self.old number pass).book }
+        ensures cap { self.new.cap ≡ self.old.cap }
     {
         if !pass {
             return Said::Done(self.count_line());
@@ -174,6 +180,7 @@ impl Desk {
     fn grant_unless(&mut self, number: u64, live: Live, full: Option<Said>) -> Said
         ensures said { result ≡ (granted_unless self.old number live full).said }
         ensures book { self.new ≡ (granted_unless self.old number live full).book }
+        ensures cap { self.new.cap ≡ self.old.cap }
     {
         match full {
             None => {
@@ -190,6 +197,7 @@ impl Desk {
     fn grant_opened(&mut self, line: &GrantLine) -> Said
         ensures said { result ≡ (granted_verdict self.old line.now line.now.verdict).said }
         ensures book { self.new ≡ (granted_verdict self.old line.now line.now.verdict).book }
+        ensures cap { self.new.cap ≡ self.old.cap }
     {
         match line.verdict {
             Verdict::Pass { client, socks } => {
@@ -214,6 +222,7 @@ impl Desk {
     fn close_live(&mut self, number: u64) -> Shut
         ensures said { result ≡ (shut self.old (counted (without_entry self.old number))).said }
         ensures book { self.new ≡ (shut self.old (counted (without_entry self.old number))).book }
+        ensures cap { self.new.cap ≡ self.old.cap }
     {
         let unlogged = self.has_log_mark();
         self.take_out(number);
@@ -228,6 +237,7 @@ impl Desk {
     fn answer_open(&mut self, line: &OpenLine) -> Said
         ensures said { result ≡ (opened self.old line.now).said }
         ensures book { self.new ≡ (opened self.old line.now).book }
+        ensures cap { self.new.cap ≡ self.old.cap }
     {
         if let Some(by) = self.stopped {
             return Said::Stopped(by);
@@ -242,6 +252,7 @@ impl Desk {
     fn answer_grant(&mut self, line: &GrantLine) -> Said
         ensures said { result ≡ (granted self.old line.now).said }
         ensures book { self.new ≡ (granted self.old line.now).book }
+        ensures cap { self.new.cap ≡ self.old.cap }
     {
         if let Some(by) = self.stopped {
             return Said::Stopped(by);
@@ -256,12 +267,33 @@ impl Desk {
     fn answer_close(&mut self, line: &CloseLine) -> Shut
         ensures said { result ≡ (closed self.old line.now).said }
         ensures book { self.new ≡ (closed self.old line.now).book }
+        ensures cap { self.new.cap ≡ self.old.cap }
     {
         match self.standing(line.number) {
             Standing::Absent => Shut::OutOfTurn(Standing::Absent),
             Standing::Opened => self.close_live(line.number),
             Standing::Granted => self.close_live(line.number),
         }
+    }
+}
+
+impl DeskCall for Desk {
+    ghost use Rattle.session_desk.specs.Standings.{StandsFor};
+
+    ghost stands = { StandsFor };
+
+    ghost cap = { λ desk. desk.cap };
+
+    fn open(&mut self, line: &OpenLine) -> Said {
+        self.answer_open(line)
+    }
+
+    fn grant(&mut self, line: &GrantLine) -> Said {
+        self.answer_grant(line)
+    }
+
+    fn close(&mut self, line: &CloseLine) -> Shut {
+        self.answer_close(line)
     }
 }
 
