@@ -1,5 +1,5 @@
 -- The counts of the history are the counts of the entries.
-use Rattle.std.proofs.Common.{ℕ, ◌≡◌, ◌+◌, Bool, true, false, ◌==◌, ◌&&◌, ◌||◌, cond, List, [], ◌∷◌, Option, Some, None, length, refl, sym, ◌∙◌, ap, subst, arith, zero-add}
+use Rattle.std.proofs.Common.{ℕ, ◌≡◌, ◌+◌, Bool, true, false, ◌==◌, ◌&&◌, ◌||◌, cond, List, [], ◌∷◌, Some, None, length, refl, sym, ◌∙◌, ap, arith, zero-add}
 use Rattle.std.specs.Prelude.{if◌then◌else◌, fold, filter_map, count_by}
 use Rattle.std.specs.List.{list_any, cons_option}
 use Rattle.std.proofs.Math.Path.{fun_ext}
@@ -8,9 +8,8 @@ use Rattle.std.proofs.lemmas.Bool.Decides.{nat_tests}
 use Rattle.socks_machine.specs.declared.cause.ListKind.{ListKind}
 use Rattle.socks_machine.specs.declared.lines.Line.{Line}
 use Rattle.socks_machine.specs.History.{Stand, is_live, is_under, stand_after, stand_opened, stand_of, opened_number, opened_numbers, distinct, live_count, held}
-use Rattle.session_desk.specs.declared.entry.Live.{Live}
 use Rattle.session_desk.specs.declared.entry.Entry.{Entry}
-use Rattle.session_desk.specs.Entries.{stand_of_live, has_number, standing_in, IsApart, held_in}
+use Rattle.session_desk.specs.Entries.{stand_of_live, standing_in, IsApart, held_in}
 use Rattle.session_desk.proofs.Changes.{by_cases, cond-same, stand_of_live-is_live}
 
 -- ---- lists of numbers

@@ -1,12 +1,11 @@
 -- What the book answers is what the history answers, and it then stands for that history.
-use Rattle.std.proofs.Common.{ℕ, ◌≡◌, ◌+◌, ◌-◌, ◌^◌, ◌<◌, ◌≤◌, min, Bool, true, false, ◌==◌, ◌&&◌, nat_lt, nat_le, cond, List, [], ◌∷◌, ◌++◌, Option, Some, None, length, refl, sym, ◌∙◌, ap, subst, arith, length-append}
-use Rattle.std.specs.Prelude.{if◌then◌else◌, fold}
+use Rattle.std.proofs.Common.{ℕ, ◌≡◌, ◌+◌, ◌-◌, ◌^◌, ◌<◌, min, Bool, true, false, ◌==◌, ◌&&◌, nat_lt, nat_le, cond, List, [], ◌∷◌, ◌++◌, Option, Some, None, length, refl, sym, ◌∙◌, ap, subst, arith, length-append}
+use Rattle.std.specs.Prelude.{if◌then◌else◌}
 use Rattle.std.proofs.lemmas.List.Sums.{fold-append}
 use Rattle.std.proofs.lemmas.Option.{none-some, same_Some}
 use Rattle.std.proofs.lemmas.Bool.Decides.{nat_tests}
 use Rattle.rule_list.specs.declared.verdict.Verdict.{Verdict}
 use Rattle.socks_machine.specs.declared.cause.ListKind.{ListKind}
-use Rattle.socks_machine.specs.declared.cause.Standing.{Standing}
 use Rattle.socks_machine.specs.declared.cause.StopBy.{StopBy}
 use Rattle.socks_machine.specs.declared.lines.OpenLine.{OpenLine}
 use Rattle.socks_machine.specs.declared.lines.GrantLine.{GrantLine}
@@ -20,8 +19,8 @@ use Rattle.socks_machine.specs.History.{Stand, Desked, stand_of, stand_opened, s
 use Rattle.session_desk.specs.declared.entry.Live.{Live}
 use Rattle.session_desk.specs.declared.entry.Entry.{Entry}
 use Rattle.session_desk.specs.Calls.{Opens, Grants, Closes}
-use Rattle.session_desk.specs.Entries.{has_number, standing_in, IsApart, renewed, without, held_in}
-use Rattle.session_desk.specs.Books.{Book, Answered, counted, with_line, unchanged, unless_stopped, with_entry, admitted, opened_standing, opened, full_in, or_full, with_grant, granted_unless, granted_verdict, granted_standing, granted, without_entry, shut, closed_standing, closed}
+use Rattle.session_desk.specs.Entries.{standing_in, IsApart, renewed, without}
+use Rattle.session_desk.specs.Books.{Book, Answered, counted, with_line, unchanged, unless_stopped, with_entry, opened_standing, opened, full_in, or_full, granted_unless, granted_verdict, granted_standing, granted, without_entry, closed_standing, closed}
 use Rattle.session_desk.specs.Standings.{StandsFor}
 use Rattle.session_desk.proofs.Counts.{live_count-length, held-held_in}
 use Rattle.session_desk.proofs.Changes.{by_cases, cond-same, standing_in-more, IsApart-more, standing_in-renewed, IsApart-renewed, standing_in-without, IsApart-without}

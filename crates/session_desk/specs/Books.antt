@@ -1,5 +1,5 @@
 -- What the desk keeps, and how each call changes it.
-use Rattle.std.specs.Prelude.{◌≡◌, ℕ, ◌+◌, ◌-◌, ◌^◌, ◌==◌, min, nat_lt, nat_le, if◌then◌else◌, Bool, Option, Some, None, List, [], ◌∷◌, ◌++◌, length}
+use Rattle.std.specs.Prelude.{ℕ, ◌+◌, ◌-◌, ◌^◌, ◌==◌, min, nat_lt, nat_le, if◌then◌else◌, Bool, Option, Some, None, List, [], ◌∷◌, ◌++◌, length}
 use Rattle.rule_list.specs.declared.verdict.Verdict.{Verdict}
 use Rattle.socks_machine.specs.declared.cause.ListKind.{ListKind}
 use Rattle.socks_machine.specs.declared.cause.Standing.{Standing}
@@ -9,7 +9,7 @@ use Rattle.socks_machine.specs.declared.lines.GrantLine.{GrantLine}
 use Rattle.socks_machine.specs.declared.lines.CloseLine.{CloseLine}
 use Rattle.socks_machine.specs.declared.lines.Said.{Said}
 use Rattle.socks_machine.specs.declared.lines.Shut.{Shut}
-use Rattle.socks_machine.specs.History.{Stand, standing, is_log}
+use Rattle.socks_machine.specs.History.{standing, is_log}
 use Rattle.session_desk.specs.declared.entry.Live.{Live}
 use Rattle.session_desk.specs.declared.entry.Entry.{Entry}
 use Rattle.session_desk.specs.Entries.{standing_in, renewed, without, held_in}

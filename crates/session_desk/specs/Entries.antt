@@ -1,5 +1,5 @@
 -- The entries of the live associations: how each number stands by them, and how they change.
-use Rattle.std.specs.Prelude.{◌≡◌, ℕ, Bool, true, false, ◌==◌, if◌then◌else◌, List, [], ◌∷◌, count_by}
+use Rattle.std.specs.Prelude.{◌≡◌, ℕ, Bool, ◌==◌, if◌then◌else◌, List, [], ◌∷◌, count_by}
 use Rattle.socks_machine.specs.declared.cause.ListKind.{ListKind}
 use Rattle.socks_machine.specs.History.{Stand, is_under}
 use Rattle.session_desk.specs.declared.entry.Live.{Live}

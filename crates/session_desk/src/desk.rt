@@ -1,6 +1,7 @@
 ghost use Rattle.std.specs.Prelude.{◌≡◌, false, ◌<◌, ◌≤◌, ◌==◌, [], length, IfOk, IfSome, position};
 ghost use Rattle.socks_machine.specs.History.{standing as standing_of, is_log};
 ghost use Rattle.session_desk.specs.Entries.{has_number, standing_in, held_in, renewed, without};
+ghost use Rattle.session_desk.specs.Standings.{StandsFor};
 ghost use Rattle.session_desk.specs.Books.{Book, counted, with_entry, with_grant, without_entry, admitted, opened, full_in, or_full, shut, granted_unless, granted_verdict, granted, closed};
 
 use crate::call::DeskCall;
@@ -34,7 +35,8 @@ impl Model for Desk {
 impl Desk {
     /// Takes all memory that the desk ever takes: room for so many live associations.
     pub fn make(alloc: Global, cap: u32) -> Result<Desk, Memory>
-        ensures { IfOk result (λ desk. desk ≡ record { cap = cap; entries = []; lines = 0; stopped = None }) }
+        ensures cap { IfOk result (λ desk. desk.cap ≡ cap) }
+        ensures stands { IfOk result (λ desk. StandsFor desk [] []) }
     {
         match Vec::with_capacity(alloc, cap as usize) {
             Err(_) => Err(Memory),
@@ -278,8 +280,6 @@ impl Desk {
 }
 
 impl DeskCall for Desk {
-    ghost use Rattle.session_desk.specs.Standings.{StandsFor};
-
     ghost stands = { StandsFor };
 
     ghost cap = { λ desk. desk.cap };

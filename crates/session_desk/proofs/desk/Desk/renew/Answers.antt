@@ -1,8 +1,6 @@
-use Rattle.std.proofs.Common.{◌≡◌, List, Some, sym, ◌∙◌, ap}
-use Rattle.std.specs.Prelude.{slice_set, position}
+use Rattle.std.proofs.Common.{List, sym, ◌∙◌, ap}
 use Rattle.session_desk.specs.declared.entry.Entry.{Entry}
-use Rattle.session_desk.specs.Entries.{has_number, renewed}
-use Rattle.session_desk.specs.Books.{Book, with_grant}
+use Rattle.session_desk.specs.Books.{Book}
 use Rattle.session_desk.proofs.Places.{with_grant-place, renewed-none}
 use Rattle.session_desk.proofs.desk.Desk.renew.Goals as goal
 

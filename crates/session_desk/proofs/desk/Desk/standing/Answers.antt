@@ -1,5 +1,4 @@
-use Rattle.std.proofs.Common.{rules, ◌≡◌, sym, ◌∙◌, ap, refl}
-use Rattle.session_desk.specs.Entries.{standing_in}
+use Rattle.std.proofs.Common.{sym, ◌∙◌, refl}
 use Rattle.session_desk.proofs.Places.{standing_in-none, standing_in-some}
 use Rattle.session_desk.proofs.desk.Desk.standing.Goals as goal
 

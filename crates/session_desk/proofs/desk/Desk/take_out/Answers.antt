@@ -1,9 +1,6 @@
-use Rattle.std.proofs.Common.{◌≡◌, List, Some, sym, ◌∙◌, ap}
-use Rattle.std.specs.Prelude.{position}
-use Rattle.std.specs.List.{remove}
+use Rattle.std.proofs.Common.{List, sym, ◌∙◌, ap}
 use Rattle.session_desk.specs.declared.entry.Entry.{Entry}
-use Rattle.session_desk.specs.Entries.{has_number, without}
-use Rattle.session_desk.specs.Books.{Book, without_entry}
+use Rattle.session_desk.specs.Books.{Book}
 use Rattle.session_desk.proofs.Places.{without_entry-place, without-none}
 use Rattle.session_desk.proofs.desk.Desk.take_out.Goals as goal
 

@@ -1,0 +1,5 @@
+use Rattle.session_desk.proofs.Laws.{opens}
+use Rattle.session_desk.proofs.desk.DeskDeskCall.open.Goals as goal
+
+pub returns-clause-line : goal.returns-clause-line
+returns-clause-line c = opens c.args.self.now c.answer_open.new.self c.args.line.now c.answer_open.result c.answer_open.ensures.said c.answer_open.ensures.book
