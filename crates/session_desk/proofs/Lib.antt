@@ -2,3 +2,4 @@ pub mod Places
 pub mod Counts
 pub mod Changes
 pub mod Laws
+pub mod Limits

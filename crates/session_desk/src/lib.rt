@@ -7,3 +7,6 @@ mod entry;
 
 pub use call::DeskCall;
 pub use desk::Desk;
+
+#[cfg(test)]
+mod tests;
