@@ -74,6 +74,21 @@ fresh_net cap = record {
   counts = record { refused = 0; no_host = 0; no_net = 0; faults = 0 };
 }
 
+-- what a dial leaves: a link is given once, and then the next dial is refused
+abbrev pub outcome_left : DialOutcome → DialOutcome
+outcome_left (DialOutcome.CameUp local) = DialOutcome.WasRefused
+outcome_left DialOutcome.WasRefused = DialOutcome.WasRefused
+outcome_left DialOutcome.NoHost = DialOutcome.NoHost
+outcome_left DialOutcome.NoNet = DialOutcome.NoNet
+outcome_left DialOutcome.Fault = DialOutcome.Fault
+
+abbrev pub link_left : DialOutcome → LinkInMemory → LinkInMemory
+link_left (DialOutcome.CameUp local) link = fresh_link 0
+link_left DialOutcome.WasRefused link = link
+link_left DialOutcome.NoHost link = link
+link_left DialOutcome.NoNet link = link
+link_left DialOutcome.Fault link = link
+
 -- a source: all that it has to give, and what it gave of that
 pub record SourceInMemory : Type 0 where
   pub whole : List ℕ

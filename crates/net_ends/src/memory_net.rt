@@ -112,7 +112,10 @@ impl MemNet {
 }
 
 impl Net for MemNet {
-    ghost use Rattle.net_ends.specs.InMemory.{told_of_net};
+    ghost use Rattle.std.specs.Prelude.{◌≡◌, Some};
+    ghost use Rattle.net_ends.specs.InMemory.{told_of_net, told_of_link, outcome_left, link_left};
+    ghost use Rattle.net_ends.specs.Nets.{Plan, AsPlanned, IfUp, DialsLater, DialCause, dialled, outcome_of};
+    ghost use Rattle.net_ends.specs.Told.{IsFresh};
 
     type Link = MemLink;
 
@@ -120,7 +123,18 @@ impl Net for MemNet {
 
     ghost counts = { λ net. net.counts };
 
-    fn dial(&mut self, to: Endpoint) -> Dialing<MemLink> {
+    fn dial(&mut self, to: Endpoint) -> Dialing<MemLink>
+        ensures told { (told_of_net self.new).dials ≡ dialled (told_of_net self.old).dials (record { to = to; outcome = outcome_of result }) }
+        ensures planned { (plan : Plan) → (told_of_net self.old).plan ≡ Some plan → AsPlanned told_of_link plan result }
+        ensures fresh { IfUp result (λ link. IsFresh (told_of_link link)) }
+        ensures later { DialsLater self.old.counts self.new.counts }
+        ensures cause { DialCause self.old.counts self.new.counts (outcome_of result) }
+
+        // Beside the clauses of the trait: the link is given once, and the last dial is kept.
+        ensures outcome { self.new.outcome ≡ outcome_left self.old.outcome }
+        ensures link { self.new.link ≡ link_left self.old.outcome self.old.link }
+        ensures last { self.new.last ≡ Some to }
+    {
         self.last = Some(to);
         match self.outcome {
             DialPlan::Up(local) => {

@@ -1,4 +1,4 @@
-use Rattle.std.proofs.Common.{◌≡◌, ◌==◌, ◌+◌, ◌++◌, ℕ, Bool, List, Some, length, take, drop, ap, sym, ◌∙◌}
+use Rattle.std.proofs.Common.{◌≡◌, ◌==◌, ◌+◌, ℕ, Bool, List, Some, length, take, drop, ap, ◌∙◌}
 use Rattle.net_ends.specs.Told.{Told}
 use Rattle.net_ends.proofs.Parts.{given_more, given_part}
 use Rattle.net_ends.proofs.memory_link.MemLinkLink.read.Goals as goal
