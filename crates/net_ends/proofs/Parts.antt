@@ -18,3 +18,7 @@ given_part bytes ends n arrival given is_arrival is_given =
     let same_bytes : bytes ≡ arrival.bytes = ap (λ (z : Arrival). z.bytes) same in
     let part : take n bytes ≡ given = cc is_given in
     (drop n bytes, ap (λ (z : List ℕ). z ++ drop n bytes) (sym part) ∙ (take-append-drop n bytes ∙ same_bytes))
+
+-- what was given is the front of all
+pub front_of : (bytes : List ℕ) (n : ℕ) → IsPrefix (take n bytes) bytes
+front_of bytes n = (drop n bytes, take-append-drop n bytes)

@@ -1,18 +1,20 @@
 -- What a source and a sink tell of themselves, and how an answer changes it.
 use Rattle.std.specs.Prelude.{◌≡◌, ◌<◌, ◌≤◌, ℕ, Option, Some, None, List, ◌++◌, take}
+use mathlib.Core.List.{IsPrefix}
 use Rattle.net_ends.specs.declared.stream.Taking.{Taking}
 use Rattle.net_ends.specs.declared.stream.Giving.{Giving}
 use Rattle.net_ends.specs.Counts.{Rose}
 use Rattle.net_ends.specs.Told.{more}
 
--- what a source has given, and all that it has to give; the one is a part of the other
+-- what a source has given, and all that it has to give, what it has given included
 pub record SourceTold : Type 0 where
   pub given : List ℕ
   pub whole : List ℕ
 
--- What an answer to a read does to what a source tells: it gives the buffer's first bytes, and ends only behind all of it.
+-- What an answer to a read does to what a source tells: it gives the buffer's first bytes, which are the next of all that it
+-- has, and it ends only behind all of that.
 abbrev pub Gives : SourceTold → SourceTold → Taking → List ℕ → Type 0
-Gives old new (Taking.Got n) buffer = (new.given ≡ old.given ++ take n buffer) × (new.whole ≡ old.whole)
+Gives old new (Taking.Got n) buffer = (new.given ≡ old.given ++ take n buffer) × (new.whole ≡ old.whole) × IsPrefix new.given new.whole
 Gives old new Taking.End buffer = (new ≡ old) × (old.given ≡ old.whole)
 Gives old new Taking.Failed buffer = new ≡ old
 

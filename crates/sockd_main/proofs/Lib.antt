@@ -1,1 +1,2 @@
 pub mod Mores
+pub mod Statuses

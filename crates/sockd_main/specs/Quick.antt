@@ -31,6 +31,9 @@ pub record Streams : Type 0 where
   pub out : Option (List ℕ)
   pub out_faults : ℕ
 
+abbrev pub streams : Option SourceTold → ℕ → Option (List ℕ) → ℕ → Streams
+streams input input_faults out out_faults = record { input = input; input_faults = input_faults; out = out; out_faults = out_faults }
+
 -- the input was read to its end, and is this script
 pub record IsRead (old new : Option SourceTold) (script : List ScriptLine) : Type 0 where
   pub bytes : List ℕ
@@ -109,21 +112,24 @@ status_of End.InputFault = 3
 status_of End.OutputFault = 3
 status_of End.Memory = 4
 
--- standard error took the text, or a part from its front, and its count of faults rose
-abbrev pub Prints : Option (List ℕ) → Option (List ℕ) → ℕ → ℕ → List ℕ → Type 0
-Prints old new before now text = (whole : Bool) × Wrote old new before now text whole
-
 -- what standard error tells, and how often it failed
 pub record Errors : Type 0 where
   pub told : Option (List ℕ)
   pub faults : ℕ
+
+abbrev pub errors : Option (List ℕ) → ℕ → Errors
+errors told faults = record { told = told; faults = faults }
+
+-- standard error took the text, or a part from its front, and its count of faults rose
+abbrev pub Prints : Errors → Errors → List ℕ → Type 0
+Prints before now text = (whole : Bool) × Wrote before.told now.told before.faults now.faults text whole
 
 -- a run came to an end, the status is the one of that end, and standard error has its fault text
 pub record OnQuick (words : List (String Global)) (old new : Streams) (before now : Errors) (status : ℕ) : Type 0 where
   pub end : End
   pub ran : OnRun words old new end
   pub status' : status ≡ status_of end
-  pub printed : Prints before.told now.told before.faults now.faults (fault_text end)
+  pub printed : Prints before now (fault_text end)
 
 -- how a run ends whose script was refused
 abbrev pub end_of : ScriptFault → ScriptKind → End

@@ -1,5 +1,5 @@
 ghost use Rattle.std.specs.Prelude.{◌≡◌, []};
-ghost use Rattle.sockd_main.specs.Quick.{Prints, fault_text as fault_words, kind_text as kind_words};
+ghost use Rattle.sockd_main.specs.Quick.{Prints, errors, fault_text as fault_words, kind_text as kind_words};
 
 use crate::end::End;
 use crate::whole::write_all;
@@ -49,7 +49,7 @@ fn fault_text(end: &End) -> Short
 
 /// Writes the fault text of an end. Where that fails nothing more can be done.
 pub fn report<E: Sink>(end: &End, err: &mut E)
-    ensures { Prints (E.told err.old) (E.told err.new) (E.faults err.old) (E.faults err.new) (fault_words end.now) }
+    ensures { Prints (errors (E.told err.old) (E.faults err.old)) (errors (E.told err.new) (E.faults err.new)) (fault_words end.now) }
 {
     write_all(err, fault_text(end).as_slice());
 }

@@ -1,5 +1,5 @@
 ghost use Rattle.std.specs.Prelude.{◌≡◌, MatchBool};
-ghost use Rattle.sockd_main.specs.Quick.{IsReplayWord, OnRun, OnQuick, refused_end};
+ghost use Rattle.sockd_main.specs.Quick.{IsReplayWord, OnRun, OnQuick, refused_end, streams, errors};
 
 use crate::end::End;
 use crate::report::report;
@@ -34,8 +34,8 @@ fn refused(fault: ScriptFault) -> End
 /// Runs all but the report on standard error.
 fn run<I: Source, O: Sink>(alloc: Global, words: &[String], input: &mut I, out: &mut O) -> End
     ensures { OnRun words.now
-        (record { input = I.told input.old; input_faults = I.faults input.old; out = O.told out.old; out_faults = O.faults out.old })
-        (record { input = I.told input.new; input_faults = I.faults input.new; out = O.told out.new; out_faults = O.faults out.new }) result }
+        (streams (I.told input.old) (I.faults input.old) (O.told out.old) (O.faults out.old))
+        (streams (I.told input.new) (I.faults input.new) (O.told out.new) (O.faults out.new)) result }
 {
     if !is_replay(words) {
         return End::Usage;
@@ -75,10 +75,10 @@ pub fn quick<I: Source, O: Sink, E: Sink>(
     err: &mut E,
 ) -> u8
     ensures { OnQuick words.now
-        (record { input = I.told input.old; input_faults = I.faults input.old; out = O.told out.old; out_faults = O.faults out.old })
-        (record { input = I.told input.new; input_faults = I.faults input.new; out = O.told out.new; out_faults = O.faults out.new })
-        (record { told = E.told err.old; faults = E.faults err.old })
-        (record { told = E.told err.new; faults = E.faults err.new }) result }
+        (streams (I.told input.old) (I.faults input.old) (O.told out.old) (O.faults out.old))
+        (streams (I.told input.new) (I.faults input.new) (O.told out.new) (O.faults out.new))
+        (errors (E.told err.old) (E.faults err.old))
+        (errors (E.told err.new) (E.faults err.new)) result }
 {
     let end = run(alloc, words, input, out);
     report(&end, err);
