@@ -14,7 +14,7 @@ use Rattle.socks_machine.specs.declared.script.ScriptLine.{ScriptLine}
 use Rattle.socks_machine.specs.declared.world.World.{World}
 use Rattle.socks_machine.specs.Follows.{IsReplay}
 use Rattle.sockd_main.specs.declared.end.End.{End}
-use Rattle.sockd_main.specs.Whole.{Gave, HasEnded, Wrote}
+use Rattle.sockd_main.specs.Whole.{Gave, HasEnded, IsFront, Wrote}
 
 -- ---- the words
 
@@ -41,11 +41,15 @@ pub record IsRead (old new : Option SourceTold) (script : List ScriptLine) : Typ
   pub ended : HasEnded new
   pub spelled : IsScript bytes script
 
--- the input was read to its end, or past the length of a script, and has this fault
+-- nothing more of the input is wanted: it was read to its end, or past the length of a script
+abbrev pub IsEnough : Option SourceTold → List ℕ → Type 0
+IsEnough told bytes = HasEnded told ⊎ (IsFront told × (longest < length bytes))
+
+-- so much of the input has this fault
 pub record IsFaulty (old new : Option SourceTold) (fault : ScriptFault) : Type 0 where
   pub bytes : List ℕ
   pub gave : Gave old new bytes
-  pub enough : HasEnded new ⊎ (longest < length bytes)
+  pub enough : IsEnough new bytes
   pub faulty : Faulty bytes fault.line fault.kind
   pub known : fault.kind ≢ ScriptKind.Memory
 

@@ -17,10 +17,15 @@ abbrev pub HasEnded : Option SourceTold → Type 0
 HasEnded None = Unit {0}
 HasEnded (Some told) = told.given ≡ told.whole
 
+-- what it has given is the front of all that it has to give, where it tells
+abbrev pub IsFront : Option SourceTold → Type 0
+IsFront None = Unit {0}
+IsFront (Some told) = IsPrefix told.given told.whole
+
 -- what the source gave, by what was made of it
 abbrev pub OnInput : ℕ → Option SourceTold → Option SourceTold → ℕ → ℕ → Input → Type 0
 OnInput limit old new before now (Input.Whole bytes) = Gave old new bytes × HasEnded new × (length bytes ≤ limit)
-OnInput limit old new before now Input.TooLong = (bytes : List ℕ) × Gave old new bytes × (limit < length bytes)
+OnInput limit old new before now Input.TooLong = (bytes : List ℕ) × Gave old new bytes × IsFront new × (limit < length bytes)
 OnInput limit old new before now Input.Failed = Rose before now
 OnInput limit old new before now Input.Memory = Unit {0}
 
