@@ -1,5 +1,5 @@
 -- What each status says of a run.
-use Rattle.std.proofs.Common.{◌≡◌, ◌≢◌, ◌↔◌, ◌⊎◌, ℕ, List, [], ◌++◌, Option, Some, None, inl, inr, sym, ap, subst, ◌∙◌, refl, arith}
+use Rattle.std.proofs.Common.{append-nil, ◌≡◌, ◌⊎◌, ℕ, List, [], inl, inr, sym, ap, ◌∙◌, refl, arith}
 use mathlib.Core.List.{IsPrefix}
 use Rattle.std.specs.declared.alloc.Global.{Global}
 use Rattle.std.specs.declared.string.String.{String}
@@ -92,7 +92,7 @@ pub record HasPart (old new : Streams) : Type 0 where
 
 nothing_or_part : (old new : Streams) (end : End) → OnEnd old new end → (new.out ≡ old.out) ⊎ HasPart old new
 nothing_or_part old new End.Done h =
-    inr (record { transcript = h.transcript; shown = h.shown; part = h.transcript; front = ([], Rattle.std.proofs.Common.append-nil h.transcript); out = h.out })
+    inr (record { transcript = h.transcript; shown = h.shown; part = h.transcript; front = ([], append-nil h.transcript); out = h.out })
 nothing_or_part old new (End.Script fault) h = inl h.1
 nothing_or_part old new End.Usage h = inl (ap (λ (z : Streams). z.out) h)
 nothing_or_part old new End.InputFault h = inl h.1
