@@ -114,7 +114,7 @@ impl MemNet {
 impl Net for MemNet {
     ghost use Rattle.std.specs.Prelude.{◌≡◌, Some};
     ghost use Rattle.net_ends.specs.InMemory.{told_of_net, told_of_link, outcome_left, link_left};
-    ghost use Rattle.net_ends.specs.Nets.{Plan, AsPlanned, IfUp, DialsLater, DialCause, dialled, outcome_of};
+    ghost use Rattle.net_ends.specs.Nets.{Plan, AsPlanned, KeepsPlan, IfUp, DialsLater, DialCause, dialled, outcome_of};
     ghost use Rattle.net_ends.specs.Told.{IsFresh};
 
     type Link = MemLink;
@@ -126,6 +126,7 @@ impl Net for MemNet {
     fn dial(&mut self, to: Endpoint) -> Dialing<MemLink>
         ensures told { (told_of_net self.new).dials ≡ dialled (told_of_net self.old).dials (record { to = to; outcome = outcome_of result }) }
         ensures planned { (plan : Plan) → (told_of_net self.old).plan ≡ Some plan → AsPlanned told_of_link plan result }
+        ensures kept { KeepsPlan result (told_of_net self.old).plan (told_of_net self.new).plan }
         ensures fresh { IfUp result (λ link. IsFresh (told_of_link link)) }
         ensures later { DialsLater self.old.counts self.new.counts }
         ensures cause { DialCause self.old.counts self.new.counts (outcome_of result) }
