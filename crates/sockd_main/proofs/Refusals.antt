@@ -68,9 +68,9 @@ refuses : (words : List (String Global)) (old new : Streams) (before now : Error
     → ByWords words end → OnEnd old new end → Prints before now (fault_text end)
     → ((status_of end ≡ 1) × Prints before now (fault_text (End.Script fault))) ⊎ ((status_of end ≡ 3) ⊎ (status_of end ≡ 4))
 refuses words old new before now from to all fault End.Done is_replay is_from is_to whole faulty known by h p =
-    let same : h.shown.read'.bytes ≡ all = all_given old.input new.input from to h.shown.read'.bytes all is_from is_to whole h.shown.read'.gave h.shown.read'.ended in
-    let there : Faulty h.shown.read'.bytes fault.line fault.kind = subst (λ (z : List ℕ). Faulty z fault.line fault.kind) (sym same) faulty in
-    absurd (known (script_faultless h.shown.read'.bytes h.shown.script fault.line fault.kind h.shown.read'.spelled there))
+    let same : h.shown.is_read.bytes ≡ all = all_given old.input new.input from to h.shown.is_read.bytes all is_from is_to whole h.shown.is_read.gave h.shown.is_read.ended in
+    let there : Faulty h.shown.is_read.bytes fault.line fault.kind = subst (λ (z : List ℕ). Faulty z fault.line fault.kind) (sym same) faulty in
+    absurd (known (script_faultless h.shown.is_read.bytes h.shown.script fault.line fault.kind h.shown.is_read.spelled there))
 refuses words old new before now from to all fault (End.Script other) is_replay is_from is_to whole faulty known by h p =
     inl (refl, subst (λ (z : List ℕ). Prints before now z) (same_fault old.input new.input from to all fault other is_from is_to whole faulty known h.0 h.0.enough) p)
 refuses words old new before now from to all fault End.Usage is_replay is_from is_to whole faulty known by h p = absurd (by is_replay)
@@ -85,5 +85,5 @@ pub refused_exactly : (words : List (String Global)) (old new : Streams) (before
     → Faulty all fault.line fault.kind → fault.kind ≢ ScriptKind.Memory
     → ((status ≡ 1) × Prints before now (fault_text (End.Script fault))) ⊎ ((status ≡ 3) ⊎ (status ≡ 4))
 refused_exactly words old new before now status from to all fault q is_replay is_from is_to whole faulty known =
-    subst (λ (z : ℕ). ((z ≡ 1) × Prints before now (fault_text (End.Script fault))) ⊎ ((z ≡ 3) ⊎ (z ≡ 4))) (sym q.status')
-    (refuses words old new before now from to all fault q.end is_replay is_from is_to whole faulty known q.ran.words' q.ran.ended q.printed)
+    subst (λ (z : ℕ). ((z ≡ 1) × Prints before now (fault_text (End.Script fault))) ⊎ ((z ≡ 3) ⊎ (z ≡ 4))) (sym q.status_is)
+    (refuses words old new before now from to all fault q.end is_replay is_from is_to whole faulty known q.ran.by_words q.ran.ended q.printed)

@@ -31,7 +31,7 @@ is_usage words End.Memory by is = let e : ◌≡◌ {A = ℕ} 4 2 = is in absurd
 pub usage_exactly : (words : List (String Global)) (old new : Streams) (before now : Errors) (status : ℕ) → OnQuick words old new before now status
     → (status ≡ 2 → IsReplayWord words → ⊥) × ((IsReplayWord words → ⊥) → status ≡ 2)
 usage_exactly words old new before now status q =
-    ((λ is. is_usage words q.end q.ran.words' (sym q.status' ∙ is)), λ not_replay. q.status' ∙ no_usage words q.end q.ran.words' not_replay)
+    ((λ is. is_usage words q.end q.ran.by_words (sym q.status_is ∙ is)), λ not_replay. q.status_is ∙ no_usage words q.end q.ran.by_words not_replay)
 
 -- ---- status 0
 
@@ -45,7 +45,7 @@ done_by old new End.Memory h is = let e : ◌≡◌ {A = ℕ} 4 0 = is in absurd
 
 -- the script was read to its end, and its transcript written, whole
 pub done : (words : List (String Global)) (old new : Streams) (before now : Errors) → OnQuick words old new before now 0 → IsDone old new
-done words old new before now q = done_by old new q.end q.ran.ended (sym q.status')
+done words old new before now q = done_by old new q.end q.ran.ended (sym q.status_is)
 
 -- ---- status 1
 
@@ -65,7 +65,7 @@ refused_by old new before now End.Memory h p is = let e : ◌≡◌ {A = ℕ} 4 
 
 -- the script has the fault that is printed, and nothing else is written
 pub refused : (words : List (String Global)) (old new : Streams) (before now : Errors) → OnQuick words old new before now 1 → IsRefused old new before now
-refused words old new before now q = refused_by old new before now q.end q.ran.ended q.printed (sym q.status')
+refused words old new before now q = refused_by old new before now q.end q.ran.ended q.printed (sym q.status_is)
 
 -- ---- status 3
 
@@ -79,7 +79,7 @@ faulted_by old new End.Memory h is = let e : ◌≡◌ {A = ℕ} 4 3 = is in abs
 
 -- a count of the input's or the output's faults rose
 pub faulted : (words : List (String Global)) (old new : Streams) (before now : Errors) → OnQuick words old new before now 3 → Rose old.input_faults new.input_faults ⊎ Rose old.out_faults new.out_faults
-faulted words old new before now q = faulted_by old new q.end q.ran.ended (sym q.status')
+faulted words old new before now q = faulted_by old new q.end q.ran.ended (sym q.status_is)
 
 -- ---- what is written at all
 

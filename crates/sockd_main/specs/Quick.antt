@@ -56,7 +56,7 @@ pub record IsFaulty (old new : Option SourceTold) (fault : ScriptFault) : Type 0
 -- the input was read to its end and is a script, and this is its transcript
 pub record HasTranscript (old new : Option SourceTold) (transcript : List ℕ) : Type 0 where
   pub script : List ScriptLine
-  pub read' : IsRead old new script
+  pub is_read : IsRead old new script
   pub world : World
   pub replayed : IsReplay script world transcript
 
@@ -89,7 +89,7 @@ ByWords words End.Usage = IsReplayWord words → ⊥
 ByWords words _ = IsReplayWord words
 
 pub record OnRun (words : List (String Global)) (old new : Streams) (end : End) : Type 0 where
-  pub words' : ByWords words end
+  pub by_words : ByWords words end
   pub ended : OnEnd old new end
 
 -- ---- what is reported
@@ -132,7 +132,7 @@ Prints before now text = (whole : Bool) × Wrote before.told now.told before.fau
 pub record OnQuick (words : List (String Global)) (old new : Streams) (before now : Errors) (status : ℕ) : Type 0 where
   pub end : End
   pub ran : OnRun words old new end
-  pub status' : status ≡ status_of end
+  pub status_is : status ≡ status_of end
   pub printed : Prints before now (fault_text end)
 
 -- how a run ends whose script was refused

@@ -74,7 +74,7 @@ pub fn quick<I: Source, O: Sink, E: Sink>(
     out: &mut O,
     err: &mut E,
 ) -> u8
-    ensures { OnQuick words.now
+    ensures ended { OnQuick words.now
         (streams (I.told input.old) (I.faults input.old) (O.told out.old) (O.faults out.old))
         (streams (I.told input.new) (I.faults input.new) (O.told out.new) (O.faults out.new))
         (errors (E.told err.old) (E.faults err.old))
