@@ -1,0 +1,17 @@
+//! The reader of scripts: the lines of one worker that the first path serves.
+#![tactic(auto)]
+
+mod conf;
+mod cuts;
+mod entry;
+mod fault;
+mod forms;
+mod hosts;
+mod script;
+mod state;
+mod values;
+
+pub use entry::Entry;
+pub use fault::{ScriptFault, ScriptKind};
+pub use script::read_script;
+pub use state::{Side, State};
