@@ -31,7 +31,12 @@ abbrev pub behind_entry : State → Entry → State
 behind_entry s Entry.Skipped = s
 behind_entry s (Entry.Served l) = after s l
 
--- and that entry keeps its condition
+-- whether an entry was allowed, and then the state behind it
+abbrev pub Entered : State → State → Entry → Bool → Type 0
+Entered old new entry true = (entry_allowed old entry ≡ true) × (new ≡ behind_entry old entry)
+Entered old new entry false = entry_allowed old entry ≡ false
+
+-- an entry at the front of the text that keeps its condition
 pub record Serves (s : State) (text : List ℕ) (entry : Entry) (lines : ℕ) (behind : List ℕ) : Type 0 where
   pub begins : Begins text entry lines behind
   pub allowed : entry_allowed s entry ≡ true

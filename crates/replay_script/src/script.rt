@@ -2,7 +2,7 @@ ghost use Rattle.std.specs.Prelude.{◌≡◌, ◌≤◌, ◌++◌, [], ◌∷�
 ghost use Rattle.replay_script.specs.declared.entry.Entry.{Entry as SomeEntry};
 ghost use Rattle.replay_script.specs.Conditions.{IsServed};
 ghost use Rattle.replay_script.specs.Cuts.{IsLine};
-ghost use Rattle.replay_script.specs.Script.{OnRead, OnLines, MayStep, Begins, SpellsEntry, lines_of, longest};
+ghost use Rattle.replay_script.specs.Script.{OnRead, OnLines, MayStep, Entered, Begins, SpellsEntry, lines_of, longest};
 
 use crate::conf::publish;
 use crate::cuts::{first_line, same};
@@ -62,6 +62,16 @@ fn begins(alloc: Global, text: &[u8]) -> Result<Option<(Entry, u64, &[u8])>, All
     }
 }
 
+/// Goes on behind an entry, and says whether it keeps its condition.
+fn enters(alloc: Global, state: &mut State, entry: &Entry) -> Result<bool, AllocError>
+    ensures { IfOk result (λ done. Entered state.old state.new entry.now done) }
+{
+    match entry {
+        Entry::Skipped => Ok(true),
+        Entry::Served(line) => state.step(alloc, line),
+    }
+}
+
 /// The served entry at the front of a text.
 fn served<'a>(
     alloc: Global,
@@ -73,11 +83,10 @@ fn served<'a>(
     match begins(alloc, text) {
         Err(e) => Err(e),
         Ok(None) => Ok(None),
-        Ok(Some((Entry::Skipped, lines, behind))) => Ok(Some((Entry::Skipped, lines, behind))),
-        Ok(Some((Entry::Served(line), lines, behind))) => match state.step(alloc, &line) {
+        Ok(Some((entry, lines, behind))) => match enters(alloc, state, &entry) {
             Err(e) => Err(e),
             Ok(false) => Ok(None),
-            Ok(true) => Ok(Some((Entry::Served(line), lines, behind))),
+            Ok(true) => Ok(Some((entry, lines, behind))),
         },
     }
 }

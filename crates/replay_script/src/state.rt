@@ -52,12 +52,15 @@ const PRELUDE: [Option<u8>; 13] = [
 fn agrees(wanted: &[Option<u8>], bytes: &[u8]) -> bool
     ensures { result ≡ agree wanted.now bytes.now }
 {
-    match (wanted, bytes) {
-        ([first, wanted @ ..], [byte, bytes @ ..]) => match first {
-            None => agrees(wanted, bytes),
-            Some(first) => *first == *byte && agrees(wanted, bytes),
+    match wanted {
+        [] => true,
+        [first, wanted @ ..] => match bytes {
+            [] => true,
+            [byte, bytes @ ..] => match first {
+                None => agrees(wanted, bytes),
+                Some(first) => *first == *byte && agrees(wanted, bytes),
+            },
         },
-        _ => true,
     }
 }
 
