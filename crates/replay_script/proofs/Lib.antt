@@ -4,3 +4,7 @@ pub mod Reading
 pub mod Unique
 pub mod Nets
 pub mod Sides
+pub mod Rules
+pub mod Publishing
+pub mod Steps
+pub mod Serving
