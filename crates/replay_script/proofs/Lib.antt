@@ -8,3 +8,4 @@ pub mod Rules
 pub mod Publishing
 pub mod Steps
 pub mod Serving
+pub mod Deciding

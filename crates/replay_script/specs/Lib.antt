@@ -4,3 +4,4 @@ pub mod Forms
 pub mod Hosts
 pub mod Conf
 pub mod Script
+pub mod Laws
