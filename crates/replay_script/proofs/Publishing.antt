@@ -58,10 +58,11 @@ one_publish text c d n m x y h k0 =
     let e = r.1 in
     let f = s.1 in
     let len : length r.0 ≡ length s.0 = omega (arith, number, e, f) in
-    let rules = same_rules u.1 r.0 s.0 x y r.2 len s.2 in
-    (r.3 ∙ (ap (λ (z : Endpoint). plain_config z r.0) one ∙ (ap (λ (z : List SocksRule). plain_config k1.0 z) rules.0 ∙ sym s.3)),
-    h.3.4 ∙ (ap (λ (z : ℕ). z + 1) number ∙ sym k.4),
-    rules.1)
+    let rules = same_rules u.1 r.0 s.0 x y r.2 len s.2 in (
+      r.3 ∙ (ap (λ (z : Endpoint). plain_config z r.0) one ∙ (ap (λ (z : List SocksRule). plain_config k1.0 z) rules.0 ∙ sym s.3)),
+      h.3.4 ∙ (ap (λ (z : ℕ). z + 1) number ∙ sym k.4),
+      rules.1,
+    )
 
 -- ---- what is published is plain
 

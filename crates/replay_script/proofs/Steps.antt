@@ -49,9 +49,12 @@ begins_shorter text entry lines behind (inr h) = publish_shorter text h.0 lines 
 
 pub reads_more : (s : State) (text : List ℕ) (at : ℕ) (entries : List Entry) (rest : List ℕ) (now : State) (number : ℕ) (entry : Entry) (lines : ℕ) (behind : List ℕ) →
     Reads s text at entries rest now number → Serves now rest entry lines behind → Reads s text at (entries ++ entry ∷ []) behind (behind_entry now entry) (number + lines)
-reads_more s text at [] rest now number entry lines behind h k =
-    (lines, behind, subst (λ (z : State). Serves z text entry lines behind) h.1 (subst (λ (z : List ℕ). Serves now z entry lines behind) h.0 k),
-    (refl, ap (λ (z : State). behind_entry z entry) h.1, ap (λ (z : ℕ). z + lines) h.2))
+reads_more s text at [] rest now number entry lines behind h k = (
+  lines,
+  behind,
+  subst (λ (z : State). Serves z text entry lines behind) h.1 (subst (λ (z : List ℕ). Serves now z entry lines behind) h.0 k),
+  (refl, ap (λ (z : State). behind_entry z entry) h.1, ap (λ (z : ℕ). z + lines) h.2),
+)
 reads_more s text at (first ∷ entries) rest now number entry lines behind h k =
     (h.0, h.1, h.2, reads_more (behind_entry s first) h.1 (at + h.0) entries rest now number entry lines behind h.3 k)
 
@@ -72,6 +75,6 @@ pub so_far_more : (s : State) (text : List ℕ) (ls : List ScriptLine) (rest : L
 so_far_more s text ls rest now number entry lines behind more new h k e f = record {
   entries = h.entries ++ entry ∷ [];
   reading = subst (λ (z : State). Reads s text 2 (h.entries ++ entry ∷ []) behind z (number + lines)) (sym f)
-    (reads_more s text 2 h.entries rest now number entry lines behind h.reading k);
+      (reads_more s text 2 h.entries rest now number entry lines behind h.reading k);
   shown = e ∙ (ap (λ (z : List ScriptLine). z ++ lines_of (entry ∷ [])) h.shown ∙ sym (lines_more h.entries entry));
 }

@@ -187,10 +187,7 @@ fn rules(
 }
 
 /// The configuration that a text publishes, its count of lines with the `publish` line, and the text behind it.
-pub fn publish(
-    alloc: Global,
-    text: &[u8],
-) -> Result<Option<(Config, u64, &[u8])>, AllocError>
+pub fn publish(alloc: Global, text: &[u8]) -> Result<Option<(Config, u64, &[u8])>, AllocError>
     ensures { IfOk result (λ found. MatchOption found ((config : SomeConfig) (lines : ℕ) (behind : Items ℕ) → IsPublish text.now config lines behind → ⊥)
         (λ p. IsPublish text.now p.0 p.1 p.2.now)) }
 {

@@ -21,10 +21,7 @@ pub fn numbered(alloc: Global, text: &[u8], front: &[u8]) -> Result<Option<u64>,
     number(alloc, rest, u64::MAX)
 }
 
-fn open_line(
-    alloc: Global,
-    text: &[u8],
-) -> Result<Option<(u64, Endpoint, Endpoint)>, AllocError>
+fn open_line(alloc: Global, text: &[u8]) -> Result<Option<(u64, Endpoint, Endpoint)>, AllocError>
     ensures { IfOk result (λ found. MatchOption found ((n : ℕ) (peer at : SomeEndpoint) → IsOpen text.now n peer at → ⊥) (λ p. IsOpen text.now p.0 p.1 p.2)) }
 {
     let Some(rest) = behind(text, b"open 1 ") else {

@@ -17,3 +17,6 @@ pub use fault::{ScriptFault, ScriptKind};
 pub use laws::{faultless_script, one_fault, one_reading};
 pub use script::read_script;
 pub use state::{Side, State};
+
+#[cfg(test)]
+mod tests;

@@ -120,7 +120,11 @@ impl State {
             return None;
         }
         let at = (number - 1) as usize;
-        if at < self.sides.len() { Some(at) } else { None }
+        if at < self.sides.len() {
+            Some(at)
+        } else {
+            None
+        }
     }
 
     fn client_end(&mut self, alloc: Global, number: u64) -> bool

@@ -97,13 +97,30 @@ returns-then-port-eq0 c = λ e h.
 
 pub returns : goal.returns
 unfolding IsInternal
-returns c = 
+returns c =
     let a = rw c.in-Some-2.is at c.in_ok-a.ensures in
     let b = rw c.in-Some-3.is at c.in_ok-b.ensures in
     let d = rw c.in-Some-4.is at c.in_ok-c.ensures in
     let f = rw c.in-Some-5.is at c.in_ok-d.ensures in
     let p = rw c.in-Some-6.is at c.in_ok-port.ensures in
     let none = c.if-port-eq0.false in
-    let some : 0 < c.in-Some-6.port = omega (arith, none) in
-    (c.in-Some.addr.now, c.in-Some.ensures, (c.in-Some-2.a, c.in-Some-2.behind_a.now, a, (c.in-Some-3.b, c.in-Some-3.behind_b.now, b, (c.in-Some-4.c, c.in-Some-4.behind_c.now, d,
-    (c.in-Some-5.d, c.in-Some-5.behind_d.now, f, (c.in-Some-behind.digits.now, c.in-Some-behind.ensures, (c.in-Some-6.port, p, some, refl)))))))
+    let some : 0 < c.in-Some-6.port = omega (arith, none) in (
+      c.in-Some.addr.now,
+      c.in-Some.ensures,
+      (
+        c.in-Some-2.a,
+        c.in-Some-2.behind_a.now,
+        a,
+        (
+          c.in-Some-3.b,
+          c.in-Some-3.behind_b.now,
+          b,
+          (
+            c.in-Some-4.c,
+            c.in-Some-4.behind_c.now,
+            d,
+            (c.in-Some-5.d, c.in-Some-5.behind_d.now, f, (c.in-Some-behind.digits.now, c.in-Some-behind.ensures, (c.in-Some-6.port, p, some, refl))),
+          ),
+        ),
+      ),
+    )

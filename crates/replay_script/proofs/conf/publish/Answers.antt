@@ -72,8 +72,33 @@ returns-in-Ok c =
     let two : 2 ≤ c.in-Some-2.count = c.if-count-lt2.false in
     let most : c.in-Some-2.count ≤ 4098 = c.if-count-gt4098.false in
     let e = rules.0 in
-    let len : length c.in-Ok-Some.rules + 2 ≡ c.in-Some-2.count = omega (arith, e, two) in
-    (c.in-Some.first.now, c.in-Some.counted.now, c.in-Some.ensures.found, (c.in-Some-2.count, known, two, most, refl,
-    (c.in-Some-first_line.one.now, c.in-Some-first_line.rest.now, c.in-Some-first_line.ensures.found, (c.in-Some-3.internal, internal,
-    (c.in-Some-first_line-2.two.now, c.in-Some-first_line-2.last.now, c.in-Some-first_line-2.ensures.found, (c.if-not-same.ensures,
-    (c.in-Ok-Some.rules, len, rules.1, c.in-Ok.ensures)))))))
+    let len : length c.in-Ok-Some.rules + 2 ≡ c.in-Some-2.count = omega (arith, e, two) in (
+      c.in-Some.first.now,
+      c.in-Some.counted.now,
+      c.in-Some.ensures.found,
+      (
+        c.in-Some-2.count,
+        known,
+        two,
+        most,
+        refl,
+        (
+          c.in-Some-first_line.one.now,
+          c.in-Some-first_line.rest.now,
+          c.in-Some-first_line.ensures.found,
+          (
+            c.in-Some-3.internal,
+            internal,
+            (
+              c.in-Some-first_line-2.two.now,
+              c.in-Some-first_line-2.last.now,
+              c.in-Some-first_line-2.ensures.found,
+              (
+                c.if-not-same.ensures,
+                (c.in-Ok-Some.rules, len, rules.1, c.in-Ok.ensures),
+              ),
+            ),
+          ),
+        ),
+      ),
+    )

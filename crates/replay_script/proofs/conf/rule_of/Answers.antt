@@ -66,7 +66,26 @@ unfolding IsRuleOf
 returns c =
     let is : c.args.text.now ≡ rule_front c.args.pass ++ c.in-Some.hosts.now = c.in-Some.ensures ∙ ap (λ (z : List ℕ). z ++ c.in-Some.hosts.now) c.requires in
     let from = rw c.in-Some-2.is at c.in_ok-from.ensures in
-    let to = rw c.in-Some-3.is at c.in_ok-to.ensures in
-    (c.in-Some.hosts.now, is, (c.in-Some-cut.from.now, c.in-Some-cut.behind_from.now, c.in-Some-cut.ensures, (c.in-Some-2.from, from,
-    (c.in-Some-behind.behind_to.now, c.in-Some-behind.ensures, (c.in-Some-cut-2.to.now, c.in-Some-cut-2.end.now, c.in-Some-cut-2.ensures,
-    (c.in-Some-3.to, to, c.if-not-same.ensures, c.socks_rule.ensures))))))
+    let to = rw c.in-Some-3.is at c.in_ok-to.ensures in (
+      c.in-Some.hosts.now,
+      is,
+      (
+        c.in-Some-cut.from.now,
+        c.in-Some-cut.behind_from.now,
+        c.in-Some-cut.ensures,
+        (
+          c.in-Some-2.from,
+          from,
+          (
+            c.in-Some-behind.behind_to.now,
+            c.in-Some-behind.ensures,
+            (
+              c.in-Some-cut-2.to.now,
+              c.in-Some-cut-2.end.now,
+              c.in-Some-cut-2.ensures,
+              (c.in-Some-3.to, to, c.if-not-same.ensures, c.socks_rule.ensures),
+            ),
+          ),
+        ),
+      ),
+    )

@@ -27,6 +27,6 @@ ruling-preserved c =
     let is : IsRule c.in-Some.line.now c.in-Some-2.rule = rw c.in-Some-2.is at c.in_ok-rule.ensures in
     record {
       so_far = subst (λ (z : List SocksRule). IsRules c.args.text.now z c.in-Some.behind.now) (sym pushed)
-      (rules_more c.args.text.now c.ruling.found c.ruling.rest.now c.in-Some.line.now c.in-Some.behind.now c.in-Some-2.rule c.ruling.invariant.so_far c.in-Some.ensures.found is);
+          (rules_more c.args.text.now c.ruling.found c.ruling.rest.now c.in-Some.line.now c.in-Some.behind.now c.in-Some-2.rule c.ruling.invariant.so_far c.in-Some.ensures.found is);
       count_is = omega (arith, len, e);
     }

@@ -54,7 +54,7 @@ returns-then-base-pow-ne0 c = λ base bits h.
 
 pub returns : goal.returns
 unfolding IsNet
-returns c = 
+returns c =
     let a = rw c.in-Some.is at c.in_ok-a.ensures in
     let b = rw c.in-Some-2.is at c.in_ok-b.ensures in
     let d = rw c.in-Some-3.is at c.in_ok-c.ensures in

@@ -25,6 +25,6 @@ reading-preserved c =
     let room = c.reading.invariant.room in
     record {
       so_far = so_far_more start c.args.text.now c.reading.lines c.reading.rest.now c.reading.state c.reading.number c.in-Ok-Some.entry c.in-Ok-Some.count c.in-Ok-Some.behind.now
-      c.add_entry.new.lines c.served.new.state c.reading.invariant.so_far step.0 added step.1;
+          c.add_entry.new.lines c.served.new.state c.reading.invariant.so_far step.0 added step.1;
       room = omega (arith, a, room);
     }

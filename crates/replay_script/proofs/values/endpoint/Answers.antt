@@ -56,6 +56,19 @@ returns c =
     let b = rw c.in-Some-2.is at c.in_ok-b.ensures in
     let d = rw c.in-Some-3.is at c.in_ok-c.ensures in
     let f = rw c.in-Some-4.is at c.in_ok-d.ensures in
-    let p = rw c.in-Some-5.is at c.in_ok-port.ensures in
-    (c.in-Some.a, c.in-Some.behind_a.now, a, (c.in-Some-2.b, c.in-Some-2.behind_b.now, b, (c.in-Some-3.c, c.in-Some-3.behind_c.now, d,
-    (c.in-Some-4.d, c.in-Some-4.behind_d.now, f, (c.in-Some-5.port, p, refl)))))
+    let p = rw c.in-Some-5.is at c.in_ok-port.ensures in (
+      c.in-Some.a,
+      c.in-Some.behind_a.now,
+      a,
+      (
+        c.in-Some-2.b,
+        c.in-Some-2.behind_b.now,
+        b,
+        (
+          c.in-Some-3.c,
+          c.in-Some-3.behind_c.now,
+          d,
+          (c.in-Some-4.d, c.in-Some-4.behind_d.now, f, (c.in-Some-5.port, p, refl)),
+        ),
+      ),
+    )

@@ -17,6 +17,7 @@ returns c =
     ap is_served_input (sym (c.as_slice.ensures ∙ added)) ∙ (sym c.is_served_input.ensures ∙ c.if-not-is_served_input.false) in
     let test : may_send c.args.bytes.now c.replace-side.result ≡ true = grind (arith, nat_tests, c.if-side.false, fits, served) in
     let put : c.set.new.self ≡ slice_set c.replace-side.new.self c.in-Some.at (change c.replace-side.result) =
-    c.set.ensures ∙ ap (λ (z : List ℕ). slice_set c.replace-side.new.self c.in-Some.at (let t : Side = record c.replace-side.result { c = z } in t)) added in
-    (tested c.args.self.now c.args.number c.in-Some.at c.replace-side.result _ c.in-Some.ensures.0 c.replace-side.ensures.value ∙ test,
-    changed c.args.self.now c.args.number c.in-Some.at change c.replace-side.result _ _ _ c.in-Some.ensures.0 c.replace-side.ensures.value c.replace-side.ensures.after put)
+    c.set.ensures ∙ ap (λ (z : List ℕ). slice_set c.replace-side.new.self c.in-Some.at (let t : Side = record c.replace-side.result { c = z } in t)) added in (
+      tested c.args.self.now c.args.number c.in-Some.at c.replace-side.result _ c.in-Some.ensures.0 c.replace-side.ensures.value ∙ test,
+      changed c.args.self.now c.args.number c.in-Some.at change c.replace-side.result _ _ _ c.in-Some.ensures.0 c.replace-side.ensures.value c.replace-side.ensures.after put,
+    )

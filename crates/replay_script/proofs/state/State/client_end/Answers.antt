@@ -10,6 +10,7 @@ pub returns : goal.returns
 returns c =
     let change : Side → Side = λ side. record side { end_c = true } in
     let whole : is_whole_input c.replace-side.result.c ≡ true = ap is_whole_input (sym c.as_slice.ensures) ∙ (sym c.is_whole_input.ensures ∙ c.if-not-is_whole_input.false) in
-    let test : may_end c.replace-side.result ≡ true = grind (arith, nat_tests, c.if-side.false, whole) in
-    (tested c.args.self.now c.args.number c.in-Some.at c.replace-side.result _ c.in-Some.ensures.0 c.replace-side.ensures.value ∙ test,
-    changed c.args.self.now c.args.number c.in-Some.at change c.replace-side.result _ _ _ c.in-Some.ensures.0 c.replace-side.ensures.value c.replace-side.ensures.after c.set.ensures)
+    let test : may_end c.replace-side.result ≡ true = grind (arith, nat_tests, c.if-side.false, whole) in (
+      tested c.args.self.now c.args.number c.in-Some.at c.replace-side.result _ c.in-Some.ensures.0 c.replace-side.ensures.value ∙ test,
+      changed c.args.self.now c.args.number c.in-Some.at change c.replace-side.result _ _ _ c.in-Some.ensures.0 c.replace-side.ensures.value c.replace-side.ensures.after c.set.ensures,
+    )
