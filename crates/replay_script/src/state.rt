@@ -10,7 +10,7 @@ use socks_machine::ScriptLine;
 use std::alloc::{AllocError, Global};
 
 /// What the lines so far say of one association.
-#[derive(Debug, Drop)]
+#[derive(Drop)]
 pub struct Side {
     /// The bytes of the client.
     pub c: Text,
@@ -22,7 +22,7 @@ pub struct Side {
 }
 
 /// What the lines so far say.
-#[derive(Debug, Drop)]
+#[derive(Drop)]
 pub struct State {
     pub published: bool,
     pub seen: bool,
@@ -102,7 +102,7 @@ impl Side {
 }
 
 impl State {
-    pub fn make(alloc: Global) -> State
+    pub(crate) fn make(alloc: Global) -> State
         ensures { result ≡ start }
     {
         State {
@@ -219,7 +219,7 @@ impl State {
     }
 
     /// Goes on behind a line, and says whether it keeps its condition.
-    pub fn step(&mut self, alloc: Global, line: &ScriptLine) -> Result<bool, AllocError>
+    pub(crate) fn step(&mut self, alloc: Global, line: &ScriptLine) -> Result<bool, AllocError>
         ensures { IfOk result (λ done. Allowed self.old self.new line.now done) }
     {
         match line {
