@@ -1,9 +1,9 @@
 -- Laws of texts that are cut.
-use Rattle.std.proofs.Common.{true, false, true≢false, Bool, ◌≡◌, ◌≢◌, ◌<◌, ◌≤◌, ◌^◌, ℕ, List, [], ◌∷◌, ◌++◌, ◌+◌, ◌%◌, sym, subst, take, get_or, length, ap, ◌∙◌, refl, decimal, arith}
+use Rattle.std.proofs.Common.{true, false, true≢false, ◌≡◌, ◌≢◌, ◌<◌, ◌≤◌, ◌^◌, ℕ, List, [], ◌∷◌, ◌++◌, ◌+◌, ◌%◌, sym, subst, take, get_or, length, ◌∙◌, refl, decimal, arith}
 use Rattle.std.proofs.lemmas.Fmt.{decimal_by_steps}
 use Rattle.std.proofs.lemmas.List.{take_more}
 use Rattle.std.proofs.lemmas.Bool.Decides.{nat_tests}
-use Rattle.replay_script.specs.Cuts.{Lacks, CutsAt, is_digit}
+use Rattle.replay_script.specs.Cuts.{Lacks, is_digit}
 
 pub lacks_append : (at : ℕ) (xs ys : List ℕ) → Lacks at xs → Lacks at ys → Lacks at (xs ++ ys)
 lacks_append at [] ys h k = k

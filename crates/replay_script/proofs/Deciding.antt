@@ -1,11 +1,11 @@
 -- A text has one reading.
-use Rattle.std.proofs.Common.{◌≡◌, ◌≢◌, ◌⊎◌, ◌<◌, ◌≤◌, ◌+◌, ℕ, true, List, [], ◌∷◌, ◌++◌, length, sym, subst, ap, ◌∙◌, refl, arith}
+use Rattle.std.proofs.Common.{◌≡◌, ◌≢◌, ◌+◌, ℕ, List, [], ◌∷◌, length, sym, subst, ap, ◌∙◌, refl, arith}
 use Rattle.socks_machine.specs.declared.script.ScriptLine.{ScriptLine}
 use Rattle.replay_script.specs.declared.entry.Entry.{Entry}
 use Rattle.replay_script.specs.declared.state.State.{State}
 use Rattle.replay_script.specs.declared.fault.ScriptKind.{ScriptKind}
 use Rattle.replay_script.specs.Conditions.{start}
-use Rattle.replay_script.specs.Script.{behind_entry, lines_of, Serves, Reads, Stuck, AreLines, IsStuckAt, IsScript, IsNotBuilt, IsHeaderless, Faulty, header, longest}
+use Rattle.replay_script.specs.Script.{behind_entry, lines_of, Serves, Reads, Stuck, AreLines, IsStuckAt, IsScript, IsNotBuilt, Faulty, header}
 use Rattle.replay_script.proofs.Steps.{one_begins, begins_shorter}
 use Rattle.replay_script.proofs.Reading.{one_first}
 

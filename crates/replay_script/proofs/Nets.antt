@@ -1,6 +1,6 @@
 -- A text spells at most one host.
-use Rattle.std.proofs.Common.{◌≡◌, ◌≢◌, ◌<◌, ◌≤◌, ◌+◌, ◌*◌, ◌^◌, ℕ, List, [], ◌∷◌, codes, ap, inl, inr, sym, subst, ◌∙◌, refl, decimal, arith}
-use Rattle.replay_script.specs.Cuts.{Lacks, IsNumber, IsNumberThen, NumberThen}
+use Rattle.std.proofs.Common.{◌≡◌, ◌≢◌, ◌<◌, ◌+◌, ◌*◌, ◌^◌, ℕ, List, codes, ap, inl, inr, sym, subst, ◌∙◌, refl, decimal, arith}
+use Rattle.replay_script.specs.Cuts.{Lacks, IsNumber, IsNumberThen}
 use Rattle.addr_pattern.specs.declared.addr.Addr.{Addr}
 use Rattle.addr_pattern.specs.declared.pattern.HostPattern.{HostPattern}
 use Rattle.replay_script.specs.Hosts.{IsLast, IsNet, IsHost}

@@ -1,7 +1,7 @@
 -- What is behind a front, a number or a cut is one text.
-use Rattle.std.proofs.Common.{◌≡◌, ◌≢◌, ◌<◌, ◌≤◌, ◌+◌, ◌^◌, ℕ, Bool, true, false, List, [], ◌∷◌, ◌++◌, sym, subst, ap, ◌∙◌, refl, decimal, arith}
+use Rattle.std.proofs.Common.{◌≡◌, ◌<◌, ◌^◌, ℕ, false, List, [], ◌∷◌, ◌++◌, sym, subst, ◌∙◌, decimal, arith}
 use Rattle.std.proofs.lemmas.Fmt.{decimal_injective}
-use Rattle.replay_script.specs.Cuts.{Lacks, CutsAt, IsNumber, IsNumberThen, After, NumberThen, CutThen, is_digit}
+use Rattle.replay_script.specs.Cuts.{CutsAt, IsNumberThen, After, NumberThen, CutThen, is_digit}
 use Rattle.replay_script.proofs.Cutting.{cut_one, lacks_decimal}
 
 pub cancel : (front xs ys : List ℕ) → front ++ xs ≡ front ++ ys → xs ≡ ys

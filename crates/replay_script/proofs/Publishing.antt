@@ -1,5 +1,5 @@
 -- The lines that publish a configuration.
-use Rattle.std.proofs.Common.{◌≡◌, ◌<◌, ◌≤◌, ◌+◌, ◌^◌, ℕ, Bool, List, [], ◌∷◌, ◌++◌, length, codes, None, ap, ◌∙◌, sym, subst, refl, arith}
+use Rattle.std.proofs.Common.{◌≡◌, ◌<◌, ◌≤◌, ◌+◌, ℕ, Bool, List, [], ◌∷◌, length, codes, None, ap, ◌∙◌, sym, subst, refl, arith}
 use Rattle.std.specs.List.{All}
 use Rattle.std.proofs.lemmas.List.Elements.{All-nil, All-cons}
 use Rattle.addr_pattern.specs.declared.endpoint.Endpoint.{Endpoint}
@@ -7,8 +7,7 @@ use Rattle.conf_model.specs.declared.config.Config.{Config}
 use Rattle.conf_model.specs.declared.rule.ClientRule.{ClientRule}
 use Rattle.conf_model.specs.declared.rule.SocksRule.{SocksRule}
 use Rattle.conf_model.specs.Plain.{IsPlain}
-use Rattle.replay_script.specs.Cuts.{IsLine, LineThen}
-use Rattle.replay_script.specs.Conf.{IsInternal, IsRule, IsRuleOf, IsRules, IsPublish, plain_config, client_rule}
+use Rattle.replay_script.specs.Conf.{IsInternal, IsRuleOf, IsRules, IsPublish, plain_config, client_rule}
 use Rattle.replay_script.specs.Forms.{v4}
 use Rattle.replay_script.proofs.Peeling.{peel_after, peel_number}
 use Rattle.replay_script.proofs.Unique.{one_number, one_numbered}

@@ -1,6 +1,6 @@
 -- The first line of a text.
-use Rattle.std.proofs.Common.{◌≡◌, ◌⊎◌, ◌<◌, ◌≤◌, ◌+◌, ℕ, true, false, List, [], ◌∷◌, ◌++◌, length, inl, inr, sym, subst, ap, ◌∙◌, refl, arith, length-append}
-use Rattle.replay_script.specs.Cuts.{Lacks, CutsAt, IsLine}
+use Rattle.std.proofs.Common.{◌≡◌, ◌<◌, ℕ, List, ◌∷◌, length, inl, inr, sym, subst, ap, ◌∙◌, arith, length-append}
+use Rattle.replay_script.specs.Cuts.{Lacks, IsLine}
 use Rattle.replay_script.proofs.Cutting.{cut_one, cut_none}
 
 -- a text has one first line

@@ -1,5 +1,5 @@
 -- Rules that were read, and what follows them.
-use Rattle.std.proofs.Common.{◌≡◌, ◌<◌, ◌≤◌, ◌+◌, ◌^◌, ℕ, Bool, true, false, List, [], ◌∷◌, ◌++◌, length, codes, get_or, ap, ◌∙◌, sym, subst, refl, arith}
+use Rattle.std.proofs.Common.{◌≡◌, ◌<◌, ◌≤◌, ◌+◌, ℕ, Bool, true, false, List, [], ◌∷◌, ◌++◌, length, codes, get_or, ap, ◌∙◌, sym, subst, refl, arith}
 use Rattle.addr_pattern.specs.declared.pattern.HostPattern.{HostPattern}
 use Rattle.conf_model.specs.declared.rule.SocksRule.{SocksRule}
 use Rattle.replay_script.specs.Cuts.{IsLine, LineThen}

@@ -1,11 +1,10 @@
 -- Entries of a script, one after another.
-use Rattle.std.proofs.Common.{◌≡◌, ◌⊎◌, ◌<◌, ◌≤◌, ◌+◌, ℕ, Bool, true, false, List, [], ◌∷◌, ◌++◌, length, codes, inl, inr, sym, subst, ap, ◌∙◌, refl, arith}
+use Rattle.std.proofs.Common.{◌≡◌, ◌<◌, ◌≤◌, ◌+◌, ℕ, List, [], ◌∷◌, ◌++◌, length, codes, inl, inr, sym, subst, ap, ◌∙◌, refl, arith}
 use Rattle.conf_model.specs.declared.config.Config.{Config}
 use Rattle.socks_machine.specs.declared.script.ScriptLine.{ScriptLine}
 use Rattle.replay_script.specs.declared.entry.Entry.{Entry}
 use Rattle.replay_script.specs.declared.state.State.{State}
-use Rattle.replay_script.specs.Conf.{IsPublish}
-use Rattle.replay_script.specs.Forms.{Spells, IsNumbered}
+use Rattle.replay_script.specs.Forms.{IsNumbered}
 use Rattle.replay_script.specs.Script.{SpellsEntry, Begins, Serves, Reads, lines_of, behind_entry}
 use Rattle.replay_script.proofs.Unique.{one_line, publish_apart, skipped_apart, skipped_publish}
 use Rattle.replay_script.proofs.Publishing.{one_publish, publish_shorter}

@@ -1,5 +1,5 @@
 -- What a script's text is read as.
-use Rattle.std.specs.Prelude.{◌≡◌, ◌≢◌, ◌<◌, ◌≤◌, ◌+◌, ◌⊎◌, ℕ, Bool, true, false, List, [], ◌∷◌, ◌++◌, length, codes, Result, Ok, Err, Option, Some, None}
+use Rattle.std.specs.Prelude.{◌≡◌, ◌<◌, ◌≤◌, ◌+◌, ◌⊎◌, ℕ, Bool, true, false, List, [], ◌∷◌, length, codes, Result, Ok, Err, Option, Some, None}
 use denote.Ref.{Bor}
 use Rattle.conf_model.specs.declared.config.Config.{Config}
 use Rattle.socks_machine.specs.declared.script.ScriptLine.{ScriptLine}

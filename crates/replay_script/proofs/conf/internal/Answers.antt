@@ -1,8 +1,5 @@
-use Rattle.std.proofs.Common.{◌≡◌, ◌≢◌, ◌<◌, ◌≤◌, ◌+◌, ◌-◌, ◌*◌, ◌^◌, ℕ, Bool, true, false, List, [], ◌∷◌, ◌++◌, Option, Some, None, sym, subst, ap, ◌∙◌, refl, decimal, length, arith, codes}
-use Rattle.addr_pattern.specs.declared.endpoint.Endpoint.{Endpoint}
-use Rattle.replay_script.specs.Cuts.{IsNumber, After, NumberThen, LineThen}
-use Rattle.replay_script.specs.Forms.{largest, v4, IsNumbered}
-use Rattle.replay_script.specs.Conf.{IsInternal, IsRules, IsPublish, client_pass}
+use Rattle.std.proofs.Common.{◌≡◌, ◌<◌, refl, arith, codes}
+use Rattle.replay_script.specs.Conf.{IsInternal}
 use Rattle.replay_script.proofs.Peeling.{peel_after, peel_number}
 use Rattle.replay_script.proofs.Unique.{one_number}
 use Rattle.replay_script.proofs.conf.internal.Goals as goal

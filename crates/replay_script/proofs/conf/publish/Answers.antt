@@ -1,7 +1,6 @@
-use Rattle.std.proofs.Common.{◌≡◌, ◌≤◌, ◌+◌, ◌-◌, ℕ, List, codes, length, sym, subst, ap, ◌∙◌, refl, arith}
-use Rattle.addr_pattern.specs.declared.endpoint.Endpoint.{Endpoint}
+use Rattle.std.proofs.Common.{◌≡◌, ◌≤◌, ◌+◌, ◌-◌, codes, length, refl, arith}
 use Rattle.replay_script.specs.Forms.{IsNumbered}
-use Rattle.replay_script.specs.Conf.{IsInternal, IsRules, IsPublish}
+use Rattle.replay_script.specs.Conf.{IsInternal, IsRules}
 use Rattle.replay_script.proofs.Rules.{peel_line, no_line}
 use Rattle.replay_script.proofs.Unique.{one_numbered}
 use Rattle.replay_script.proofs.conf.publish.Goals as goal

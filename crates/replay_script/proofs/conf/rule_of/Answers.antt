@@ -1,4 +1,4 @@
-use Rattle.std.proofs.Common.{◌≡◌, ◌++◌, ℕ, Bool, List, codes, sym, subst, ap, ◌∙◌, refl, arith}
+use Rattle.std.proofs.Common.{◌≡◌, ◌++◌, ℕ, List, codes, sym, subst, ap, ◌∙◌}
 use Rattle.replay_script.specs.Cuts.{Lacks}
 use Rattle.replay_script.specs.Conf.{IsRuleOf, rule_front}
 use Rattle.replay_script.proofs.Cutting.{cut_none}

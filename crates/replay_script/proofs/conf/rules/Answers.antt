@@ -1,4 +1,4 @@
-use Rattle.std.proofs.Common.{◌≡◌, ◌<◌, ◌+◌, ◌-◌, ℕ, Bool, List, [], ◌∷◌, ◌++◌, length, sym, subst, ap, ◌∙◌, arith, length-append}
+use Rattle.std.proofs.Common.{◌≡◌, ◌<◌, ◌+◌, List, [], ◌∷◌, ◌++◌, length, sym, subst, ap, ◌∙◌, arith, length-append}
 use Rattle.conf_model.specs.declared.rule.SocksRule.{SocksRule}
 use Rattle.replay_script.specs.Conf.{IsRule, IsRules}
 use Rattle.replay_script.proofs.Rules.{peel_line, rules_more, rules_next, no_line}

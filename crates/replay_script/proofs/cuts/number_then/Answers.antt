@@ -1,5 +1,5 @@
-use Rattle.std.proofs.Common.{◌≡◌, ◌<◌, ◌≤◌, ◌^◌, ℕ, sym, subst, ◌∙◌, decimal, arith}
-use Rattle.replay_script.specs.Cuts.{Lacks, IsNumber}
+use Rattle.std.proofs.Common.{◌<◌, ◌^◌, sym, subst, ◌∙◌, decimal, arith}
+use Rattle.replay_script.specs.Cuts.{Lacks}
 use Rattle.replay_script.proofs.Cutting.{cut_one, cut_none, lacks_decimal}
 use Rattle.replay_script.proofs.cuts.number_then.Goals as goal
 

@@ -1,4 +1,4 @@
-use Rattle.std.proofs.Common.{◌≡◌, ℕ, List, codes, sym, refl, arith}
+use Rattle.std.proofs.Common.{codes, refl, arith}
 use Rattle.replay_script.specs.Forms.{largest}
 use Rattle.replay_script.proofs.Peeling.{peel_after, peel_number}
 use Rattle.replay_script.proofs.forms.dial_line.Goals as goal

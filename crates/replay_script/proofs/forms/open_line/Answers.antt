@@ -1,8 +1,7 @@
-use Rattle.std.proofs.Common.{◌≡◌, ◌≢◌, ◌<◌, ◌≤◌, ◌+◌, ◌*◌, ◌^◌, ℕ, Bool, true, false, List, [], ◌∷◌, ◌++◌, sym, subst, ap, ◌∙◌, refl, decimal, length, arith, codes}
-use Rattle.addr_pattern.specs.declared.endpoint.Endpoint.{Endpoint}
-use Rattle.replay_script.specs.Cuts.{Lacks, CutsAt, IsNumber, IsNumberThen, After, NumberThen, CutThen, is_digit}
-use Rattle.replay_script.specs.Forms.{largest, IsEndpoint, IsHex, v4}
-use Rattle.replay_script.proofs.Peeling.{cancel, peel_after, peel_cut, peel_number}
+use Rattle.std.proofs.Common.{subst, refl, arith, codes}
+use Rattle.replay_script.specs.Cuts.{Lacks}
+use Rattle.replay_script.specs.Forms.{largest}
+use Rattle.replay_script.proofs.Peeling.{peel_after, peel_cut, peel_number}
 use Rattle.replay_script.proofs.forms.open_line.Goals as goal
 use Rattle.replay_script.proofs.Cutting.{cut_none}
 

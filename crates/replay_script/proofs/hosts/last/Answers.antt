@@ -1,4 +1,4 @@
-use Rattle.std.proofs.Common.{◌≡◌, ◌<◌, ◌≤◌, ◌^◌, ℕ, List, inl, inr, sym, subst, ◌∙◌, refl, decimal, arith}
+use Rattle.std.proofs.Common.{◌<◌, ◌^◌, ℕ, inl, inr, sym, subst, ◌∙◌, refl, decimal, arith}
 use Rattle.replay_script.specs.Cuts.{Lacks, IsNumber, IsNumberThen}
 use Rattle.replay_script.proofs.Cutting.{cut_none, lacks_decimal}
 use Rattle.replay_script.proofs.Peeling.{peel_number}

@@ -1,4 +1,4 @@
-use Rattle.std.proofs.Common.{◌≡◌, ◌≢◌, ◌<◌, ◌≤◌, ◌+◌, ◌-◌, ◌*◌, ◌%◌, ◌^◌, ℕ, List, sym, subst, ap, ◌∙◌, refl, arith}
+use Rattle.std.proofs.Common.{◌≡◌, ◌+◌, ◌-◌, ◌*◌, ◌%◌, ◌^◌, ℕ, sym, subst, ap, ◌∙◌, refl, arith}
 use Rattle.replay_script.specs.Hosts.{IsNet, IsLast}
 use Rattle.replay_script.proofs.Peeling.{peel_number}
 use Rattle.replay_script.proofs.Nets.{one_last}

@@ -1,5 +1,4 @@
-use Rattle.std.proofs.Common.{◌≡◌, ◌+◌, ◌<◌, ◌≤◌, ℕ, List, [], ◌∷◌, ◌++◌, length, sym, subst, ap, ◌∙◌, refl, arith}
-use Rattle.socks_machine.specs.declared.script.ScriptLine.{ScriptLine}
+use Rattle.std.proofs.Common.{◌≡◌, ◌<◌, [], ◌∷◌, ◌++◌, length, arith}
 use Rattle.replay_script.specs.Conditions.{start}
 use Rattle.replay_script.specs.Script.{Serves, behind_entry, lines_of}
 use Rattle.replay_script.proofs.Steps.{so_far_more, begins_shorter}

@@ -1,4 +1,4 @@
-use Rattle.std.proofs.Common.{◌≡◌, ◌≤◌, ◌+◌, length}
+use Rattle.std.proofs.Common.{◌≤◌, ◌+◌, length}
 use Rattle.replay_script.specs.Conditions.{start}
 use Rattle.replay_script.proofs.Steps.{IsSoFar}
 use Rattle.replay_script.proofs.script.read_lines.Given as goal

@@ -1,4 +1,4 @@
-use Rattle.std.proofs.Common.{◌≡◌, ◌≤◌, List, sym, refl, arith}
+use Rattle.std.proofs.Common.{refl}
 use Rattle.replay_script.specs.Script.{header}
 use Rattle.replay_script.proofs.Reading.{one_first}
 use Rattle.replay_script.proofs.Serving.{read_served}

@@ -1,4 +1,4 @@
-use Rattle.std.proofs.Common.{◌≡◌, ℕ, List, subst}
+use Rattle.std.proofs.Common.{ℕ, List, subst}
 use Rattle.replay_script.specs.declared.entry.Entry.{Entry}
 use Rattle.replay_script.specs.Script.{SpellsEntry}
 use Rattle.replay_script.proofs.Reading.{one_first}

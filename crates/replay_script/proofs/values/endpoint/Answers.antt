@@ -1,8 +1,6 @@
-use Rattle.std.proofs.Common.{◌≡◌, ◌≢◌, ◌<◌, ◌≤◌, ◌+◌, ◌*◌, ◌^◌, ℕ, Bool, true, false, List, [], ◌∷◌, ◌++◌, sym, subst, ap, ◌∙◌, refl, decimal, length, arith, codes}
-use Rattle.addr_pattern.specs.declared.endpoint.Endpoint.{Endpoint}
-use Rattle.replay_script.specs.Cuts.{Lacks, CutsAt, IsNumber, IsNumberThen, After, NumberThen, CutThen, is_digit}
-use Rattle.replay_script.specs.Forms.{largest, IsEndpoint, IsHex, v4}
-use Rattle.replay_script.proofs.Peeling.{cancel, peel_after, peel_cut, peel_number}
+use Rattle.std.proofs.Common.{refl, arith}
+use Rattle.replay_script.specs.Forms.{IsEndpoint}
+use Rattle.replay_script.proofs.Peeling.{peel_number}
 use Rattle.replay_script.proofs.values.endpoint.Goals as goal
 
 pub returns-in_default : goal.returns-in_default

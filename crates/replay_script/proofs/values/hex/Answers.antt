@@ -1,10 +1,6 @@
-use Rattle.std.proofs.Common.{◌≡◌, ◌≢◌, ◌<◌, ◌≤◌, ◌+◌, ◌*◌, ◌^◌, ℕ, Bool, true, false, List, [], ◌∷◌, ◌++◌, sym, subst, ap, ◌∙◌, refl, decimal, length, arith, codes}
-use Rattle.addr_pattern.specs.declared.endpoint.Endpoint.{Endpoint}
-use Rattle.replay_script.specs.Cuts.{Lacks, CutsAt, IsNumber, IsNumberThen, After, NumberThen, CutThen, is_digit}
-use Rattle.replay_script.specs.Forms.{largest, IsEndpoint, IsHex, v4}
-use Rattle.replay_script.proofs.Peeling.{cancel, peel_after, peel_cut, peel_number}
-use Rattle.std.proofs.Common.{Ok, Err, inl, inr}
-use Rattle.hex.specs.Hex.{decode_of}
+use Rattle.std.proofs.Common.{◌≡◌, ℕ, List, sym, ap, ◌∙◌, length, arith}
+use Rattle.replay_script.specs.Forms.{IsHex}
+use Rattle.std.proofs.Common.{Ok, inl, inr}
 use Rattle.replay_script.proofs.values.hex.Goals as goal
 
 pub returns-then-len-gt0 : goal.returns-then-len-gt0

@@ -1,8 +1,8 @@
-use Rattle.std.proofs.Common.{◌≡◌, ◌+◌, ◌<◌, ◌≤◌, ℕ, Bool, true, false, not, ◌&&◌, nat_le, List, ◌++◌, Option, Some, None, length, slice_set, sym, ap, ◌∙◌, refl, arith}
+use Rattle.std.proofs.Common.{◌≡◌, ◌+◌, ◌≤◌, ℕ, true, List, ◌++◌, length, slice_set, sym, ap, ◌∙◌, arith}
 use Rattle.std.proofs.lemmas.Bool.Decides.{nat_tests}
 use Rattle.replay_script.specs.declared.state.Side.{Side}
 use Rattle.socks_machine.specs.Served.{is_served_input}
-use Rattle.replay_script.specs.Conditions.{may_send, may_end}
+use Rattle.replay_script.specs.Conditions.{may_send}
 use Rattle.replay_script.proofs.Sides.{tested, changed}
 use Rattle.replay_script.proofs.state.State.client.Goals as goal
 

@@ -1,7 +1,5 @@
-use Rattle.std.proofs.Common.{◌≡◌, ◌+◌, ◌<◌, ◌≤◌, ℕ, Bool, true, false, not, ◌&&◌, nat_le, List, Option, Some, None, length, sym, ap, ◌∙◌, refl, arith}
-use Rattle.std.proofs.lemmas.Bool.Decides.{nat_tests}
+use Rattle.std.proofs.Common.{◌≡◌, true, not, ap, ◌∙◌}
 use Rattle.replay_script.specs.declared.state.Side.{Side}
-use Rattle.replay_script.specs.Conditions.{may_send, may_end}
 use Rattle.replay_script.proofs.Sides.{tested, changed}
 use Rattle.replay_script.proofs.state.State.target_end.Goals as goal
 
