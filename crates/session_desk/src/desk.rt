@@ -49,6 +49,13 @@ impl Desk {
         }
     }
 
+    /// How many associations may be live.
+    pub fn cap(&self) -> u32
+        ensures { result ≡ self.now.cap }
+    {
+        self.cap
+    }
+
     /// The stop mark that stands, if any.
     pub fn mark(&self) -> Option<StopBy>
         ensures { result ≡ self.now.stopped }
