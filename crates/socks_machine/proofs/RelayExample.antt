@@ -18,7 +18,7 @@ use Rattle.socks_machine.specs.Turn.{turn, marked}
 use Rattle.socks_machine.proofs.CallLaws.{reading-turn}
 use Rattle.socks_machine.proofs.RelayActs.{relay-c, relay-t}
 use Rattle.socks_machine.proofs.RelayLaws.{relaying-reads}
-use Rattle.socks_machine.proofs.Rows.Given.{at4, config, any, client_rule, socks_rule}
+use Rattle.socks_machine.proofs.Rows.Shared.{at4, config, any, client_rule, socks_rule}
 use Rattle.socks_machine.proofs.SocksRelay.{relay-facts}
 use Rattle.socks_machine.proofs.StartLaws.{relay-begins}
 use Rattle.socks_machine.proofs.TurnStages.{sound, left}
