@@ -24,9 +24,9 @@ fn changes_of_a_text(rt: HostRuntime) -> Result<(), Fail> {
 #[test]
 fn items_of_a_list(rt: HostRuntime) -> Result<(), Fail> {
     let mut list: List<u32> = List::make(rt.alloc());
-    for item in [7, 8, 9] {
-        list.push(item)?;
-    }
+    list.push(7)?;
+    list.push(8)?;
+    list.push(9)?;
     assert_eq!(rt; list.replace(0, 1), 7);
     list.set(1, 2);
     list.set_last(3);
