@@ -1,5 +1,5 @@
 -- What a phase adds to a lawful turn.
-use Rattle.std.proofs.Common.{ℕ, ◌≡◌, refl, Bool, true, false, ◌||◌, Some, None, ◌++◌, ap, ◌∙◌}
+use Rattle.std.proofs.Common.{◌≡◌, true, false, ◌||◌, Some, ◌++◌, ap, ◌∙◌}
 use Rattle.socks_machine.specs.declared.cause.Cause.{Cause}
 use Rattle.socks_machine.specs.declared.record.Record.{Record}
 use Rattle.socks_machine.specs.declared.world.Outer.{Outer}

@@ -1,5 +1,5 @@
 -- The relay's facts hold of a record: they promise something.
-use Rattle.std.proofs.Common.{ℕ, ◌≡◌, ◌≤◌, refl, Bool, true, false, Option, Some, None, List, [], ◌∷◌, ◌++◌, length, arith}
+use Rattle.std.proofs.Common.{◌≡◌, refl, true, false, Some, None, [], ◌∷◌, ◌++◌, arith}
 use Rattle.conf_model.specs.declared.protocol.Command.{Command}
 use Rattle.conf_model.specs.declared.protocol.Method.{Method}
 use Rattle.conf_model.specs.declared.protocol.Version.{Version}
@@ -11,8 +11,7 @@ use Rattle.socks_machine.specs.declared.world.NextMark.{NextMark}
 use Rattle.socks_machine.specs.declared.world.TurnEvent.{TurnEvent}
 use Rattle.socks_machine.specs.Calls.{Context, keep}
 use Rattle.socks_machine.specs.Fine.{begun_event}
-use Rattle.socks_machine.specs.Owed.{owed_to_client}
-use Rattle.socks_machine.specs.Relaying.{RelayFacts, Relaying, relayed}
+use Rattle.socks_machine.specs.Relaying.{RelayFacts, Relaying}
 use Rattle.socks_machine.specs.Socks.{socks}
 use Rattle.socks_machine.specs.Turn.{turn, marked}
 use Rattle.socks_machine.proofs.CallLaws.{reading-turn}

@@ -7,7 +7,6 @@ use Rattle.socks_machine.specs.Fine.{Coarse, coarse}
 use Rattle.socks_machine.proofs.Rows.Shared.{all_pass, told, client_at, local_at, at4, greeting, request, none_passes}
 use Rattle.addr_pattern.specs.declared.addr.Addr.{Addr}
 use Rattle.socks_machine.specs.declared.cause.StopBy.{StopBy}
-use Rattle.socks_machine.specs.declared.record.Gram.{Gram}
 
 abbrev pub text_of : Coarse → List ℕ
 text_of (Coarse.Unlawful n) = []

@@ -1,6 +1,6 @@
 -- Unlawful events, one for each rule of the step: each stands behind events that are lawful, most beside the lawful
 -- one that differs from it in one place.
-use Rattle.std.specs.Prelude.{ℕ, ◌≡◌, refl, Bool, true, false, Option, Some, None, List, [], ◌∷◌, ◌++◌, is_some}
+use Rattle.std.specs.Prelude.{ℕ, ◌≡◌, refl, Bool, true, Option, Some, None, List, [], ◌∷◌, ◌++◌, is_some}
 use Rattle.socks_machine.specs.declared.cause.StopBy.{StopBy}
 use Rattle.socks_machine.specs.declared.world.Object.{Object}
 use Rattle.socks_machine.specs.declared.world.Outer.{Outer}
