@@ -1,5 +1,5 @@
 -- Which events a script allows, and which it does not, though they are lawful.
-use Rattle.std.specs.Prelude.{◌≡◌, refl, true, false, Some, List, [], ◌∷◌, replicate, is_some}
+use Rattle.std.specs.Prelude.{◌≡◌, refl, true, false, Some, List, [], ◌∷◌, ◌++◌, codes, replicate, is_some}
 use Rattle.socks_machine.specs.declared.world.Object.{Object}
 use Rattle.socks_machine.specs.declared.world.Outer.{Outer}
 use Rattle.socks_machine.specs.declared.world.NextMark.{NextMark}
@@ -8,7 +8,7 @@ use Rattle.socks_machine.specs.Script.{follows, first_surroundings}
 use Rattle.socks_machine.specs.declared.script.ScriptLine.{ScriptLine}
 use Rattle.socks_machine.specs.declared.script.CallKind.{CallKind}
 use Rattle.socks_machine.specs.Step.{start, run}
-use Rattle.socks_machine.proofs.Rows.Shared.{all_pass, quiet, at4, client_at, local_at, abc_user}
+use Rattle.socks_machine.proofs.Rows.Shared.{all_pass, quiet, at4, client_at, local_at, abc_user, told}
 use Rattle.addr_pattern.specs.declared.addr.Addr.{Addr}
 use Rattle.socks_machine.specs.Follows.{users_of, workers_of, opens_of}
 
@@ -43,6 +43,10 @@ stored_events =
 
 pub stored_follows : follows first_surroundings (Some (start [] 256 1)) stored stored_events ≡ true
 stored_follows = refl
+
+-- .. and what they are shown as
+pub stored_text : told [] 1 0 stored_events ≡ (codes "publish 1" ++ 10 ∷ []) ++ (codes "see 1 1" ++ 10 ∷ []) ++ (codes "open 1 1" ++ 10 ∷ []) ++ (codes "turn 1 1 gen 1 took 0 0 sent 0 0 again" ++ 10 ∷ []) ++ (codes "turn 1 1 gen 1 took 3 0 sent 2 0 wait" ++ 10 ∷ []) ++ (codes "turn 1 1 gen 1 took 10 0 sent 0 0 again" ++ 10 ∷ []) ++ (codes "turn 1 1 gen 1 took 0 0 sent 10 0 again" ++ 10 ∷ []) ++ (codes "see 1 1" ++ 10 ∷ []) ++ (codes "turn 1 1 gen 1 took 0 0 sent 0 0 done finished" ++ 10 ∷ []) ++ (codes "client 1 050005000001c00002099c40" ++ 10 ∷ []) ++ (codes "target 1 -" ++ 10 ∷ []) ++ (codes "end 1 finished" ++ 10 ∷ [])
+stored_text = refl
 
 -- the end of the target stands before the turn, and is not read
 abbrev pub end_unread : List ScriptLine
