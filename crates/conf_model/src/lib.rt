@@ -2,6 +2,7 @@
 #![tactic(auto)]
 
 mod config;
+pub mod laws;
 mod protocol;
 mod route;
 mod rule;
@@ -12,3 +13,6 @@ pub use protocol::{Command, Method, Stage, Version};
 pub use route::{Login, Route, Via};
 pub use rule::{ClientRule, SocksRule};
 pub use user::User;
+
+#[cfg(test)]
+mod tests;

@@ -6,3 +6,6 @@ mod memory;
 
 pub use list::{List, Text};
 pub use memory::Memory;
+
+#[cfg(test)]
+mod tests;

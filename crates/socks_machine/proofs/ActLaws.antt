@@ -1,27 +1,19 @@
 -- The acts of a turn, one law each.
-use Rattle.std.proofs.Common.{sym, ℕ, zero, suc, ◌+◌, ◌≡◌, refl, Bool, true, false, ◌&&◌, ◌||◌, not, if◌then◌else◌, Option, Some, None, List, [], ◌∷◌, ◌++◌, length, ap, subst, ◌∙◌, ◌≤◌, take, drop, ◌⊎◌, inl, inr, arith, append_assoc, length-append, is_none, is_some}
-use Rattle.std.proofs.lemmas.List.{append-nil}
-use Rattle.addr_pattern.specs.declared.endpoint.Endpoint.{Endpoint}
+use Rattle.std.proofs.Common.{sym, ℕ, ◌+◌, ◌≡◌, refl, Bool, true, false, ◌&&◌, ◌||◌, not, if◌then◌else◌, Some, None, List, ◌∷◌, ◌++◌, length, ap, ◌∙◌, append_assoc, length-append}
 use Rattle.socks_machine.specs.declared.cause.Cause.{Cause}
-use Rattle.conf_model.specs.declared.protocol.Method.{Method}
-use Rattle.socks_machine.specs.declared.record.Gram.{Gram}
 use Rattle.socks_machine.specs.declared.record.Record.{Record}
 use Rattle.socks_machine.specs.declared.world.Object.{Object}
-use Rattle.socks_machine.specs.declared.world.Outer.{Outer}
-use Rattle.socks_machine.specs.declared.world.NextMark.{NextMark}
 use Rattle.socks_machine.specs.declared.world.TurnEvent.{TurnEvent}
 use Rattle.socks_machine.specs.Basis.{Basis}
-use Rattle.socks_machine.specs.Calls.{Context, TurnResult, keep, call, call_close, is_calling}
+use Rattle.socks_machine.specs.Calls.{Context}
 use Rattle.socks_machine.specs.Datagrams.{owed_datagrams}
-use Rattle.socks_machine.specs.Equal.{mark_eq}
-use Rattle.socks_machine.specs.InTurn.{Took, Takes, takings, Sends, Sendings, Grows, StillShut, Shuts, Going, Calm, Reading, Called, Calls, InTurn, is_call, with_sendings, in_hand}
+use Rattle.socks_machine.specs.InTurn.{takings, Sends, Sendings, Grows, StillShut, Shuts, Reading, with_sendings, in_hand}
 use Rattle.socks_machine.specs.Owed.{owed_to_client, owed_to_target, pending_to_client, pending_to_target}
-use Rattle.socks_machine.specs.Phase.{Phase, phase, began, relay_began}
-use Rattle.socks_machine.specs.Settle.{fix, settled, cause_in, is_finished, is_nothing}
-use Rattle.socks_machine.specs.Taking.{◌>>=◌, some_in, taken, reads_target, reads_client, with_client_bytes}
-use Rattle.socks_machine.specs.Turn.{with_fault, with_memory, with_shut, shut_sides, guard, is_there, client_may_be_shut, target_may_be_shut, fault_cause, turn, turn_with, proceed, aged, marked, ended, may_end, answer_after, is_answer, Calling, with_record, after_call, without_call, uncalled, makes_call, output, close, close_is_due, times_out, timed_out}
-use Rattle.socks_machine.proofs.TakeLaws.{takes-c, takes-end-c, takes-idle, takes-full, settled-none}
-use Rattle.socks_machine.proofs.TurnStages.{bind, takes-is, output-is, left, makes-some}
+use Rattle.socks_machine.specs.Phase.{Phase, phase}
+use Rattle.socks_machine.specs.Settle.{fix, settled, cause_in, is_nothing}
+use Rattle.socks_machine.specs.Taking.{reads_client, with_client_bytes}
+use Rattle.socks_machine.specs.Turn.{with_shut, shut_sides, guard, client_may_be_shut, target_may_be_shut}
+use Rattle.socks_machine.proofs.TakeLaws.{takes-c, takes-end-c, takes-idle, takes-full}
 
 -- ---- what is sent
 

@@ -1,5 +1,5 @@
 -- The outer call of a turn, its faults, and its end.
-use Rattle.std.proofs.Common.{sym, ℕ, zero, suc, ◌+◌, ◌≡◌, refl, Bool, true, false, ◌&&◌, ◌||◌, not, if◌then◌else◌, Option, Some, None, List, [], ◌∷◌, ◌++◌, length, ap, subst, ◌∙◌, ◌≤◌, take, drop, ◌⊎◌, inl, inr, arith, append_assoc, length-append, is_none, is_some, filter_map}
+use Rattle.std.proofs.Common.{sym, ℕ, ◌+◌, ◌≡◌, refl, Bool, true, false, ◌&&◌, ◌||◌, not, if◌then◌else◌, Option, Some, None, List, [], ◌++◌, length, ap, subst, ◌∙◌, inl, inr, append_assoc, is_none, filter_map}
 use Rattle.std.proofs.lemmas.List.{append-nil}
 use Rattle.addr_pattern.specs.declared.endpoint.Endpoint.{Endpoint}
 use Rattle.socks_machine.specs.declared.cause.Cause.{Cause}
@@ -15,16 +15,15 @@ use Rattle.socks_machine.specs.Basis.{Basis}
 use Rattle.socks_machine.specs.Calls.{Context, TurnResult, keep, call, call_open, call_grant, call_close, reached_up, reached_not, is_connect, only, is_calling}
 use Rattle.socks_machine.specs.Datagrams.{owed_datagrams, fates_at, sent_by}
 use Rattle.socks_machine.specs.Decisions.{Grant, granted, reached_at, peer_let_in}
-use Rattle.conf_model.specs.Dialogue.{Outcome}
 use Rattle.socks_machine.specs.Equal.{mark_eq}
 use Rattle.conf_model.specs.Handshake.{Request}
-use Rattle.socks_machine.specs.InTurn.{Takes, takings, Sends, Sendings, Grows, StillShut, Shuts, Going, Calm, Reading, Called, Calls, InTurn, is_call, with_sendings, in_hand, CallsFirst}
+use Rattle.socks_machine.specs.InTurn.{Takes, takings, Sendings, Grows, Going, Calm, Reading, Called, InTurn, with_sendings}
 use Rattle.socks_machine.specs.Owed.{owed_to_client, owed_to_target, granted_replies_in, refusal_of_in, reply_at, target_by, target_is_there}
-use Rattle.socks_machine.specs.Phase.{Phase, phase, began, relay_began_in, began_by, began_after_in, way, target_payload_in, client_payload_in}
-use Rattle.socks_machine.specs.Settle.{fix, first_cause, settled}
-use Rattle.socks_machine.specs.Taking.{◌>>=◌, taken}
+use Rattle.socks_machine.specs.Phase.{Phase, phase, relay_began_in, began_by, began_after_in, way, target_payload_in, client_payload_in}
+use Rattle.socks_machine.specs.Settle.{fix, first_cause}
+use Rattle.socks_machine.specs.Taking.{◌>>=◌}
 use Rattle.socks_machine.specs.View.{View, view}
-use Rattle.socks_machine.specs.Turn.{with_fault, with_memory, with_shut, guard, is_there, fault_cause, turn, turn_with, proceed, aged, marked, ended, may_end, answer_after, is_answer, Calling, with_record, after_call, without_call, after_none, is_mute, took_quantum, may_output, uncalled, makes_call, output, fault_fits, close, close_with, close_is_due, times_out, timed_out, limit}
+use Rattle.socks_machine.specs.Turn.{with_fault, with_memory, guard, is_there, fault_cause, turn, turn_with, proceed, aged, marked, ended, answer_after, is_answer, Calling, with_record, after_call, without_call, after_none, is_mute, took_quantum, may_output, uncalled, fault_fits, close, close_with, close_is_due, times_out, timed_out, limit}
 use Rattle.socks_machine.proofs.ActLaws.{sends-more, sendings-over, unshut, shuts-is, sends_to_c, sends_to_t}
 use Rattle.socks_machine.proofs.TurnStages.{bind, takes-is, output-is, left, makes-none, makes-some}
 

@@ -1,5 +1,5 @@
 -- Datagrams: one more is taken, and one more is sent.
-use Rattle.std.proofs.Common.{sym, ℕ, ◌+◌, ◌-◌, ◌≡◌, ◌≤◌, refl, Bool, true, false, ◌&&◌, Option, Some, None, List, [], ◌∷◌, ◌++◌, length, ap, subst, ◌∙◌, inl, inr, arith, append_assoc, length-append, nat_le, take}
+use Rattle.std.proofs.Common.{sym, ℕ, ◌+◌, ◌≡◌, ◌≤◌, refl, Bool, true, false, ◌&&◌, None, List, [], ◌∷◌, ◌++◌, length, ap, subst, ◌∙◌, inl, inr, arith, append_assoc, length-append, nat_le, take}
 use Rattle.std.proofs.lemmas.List.{append-nil}
 use Rattle.std.proofs.lemmas.Bool.Decides.{nat_tests}
 use Rattle.std.proofs.Math.Seq.{take-append_seam}

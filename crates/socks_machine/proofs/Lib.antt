@@ -3,6 +3,7 @@ pub mod CallLaws
 pub mod DatagramLaws
 pub mod LaterLaws
 pub mod OwedLaws
+pub mod PhaseActLaws
 pub mod PhaseFactsLaws
 pub mod PhaseLaws
 pub mod RelayActs

@@ -1,16 +1,15 @@
 -- The acts of a turn in the relay of a CONNECT without a proxy, one law each.
-use Rattle.std.proofs.Common.{sym, ℕ, zero, suc, ◌+◌, ◌≡◌, refl, Bool, true, false, ◌&&◌, ◌||◌, not, Option, Some, None, List, [], ◌∷◌, ◌++◌, length, ap, subst, ◌∙◌, ◌≤◌, take, drop, arith, append_assoc, length-append}
-use Rattle.std.proofs.lemmas.List.{append-nil, drop-append-le}
+use Rattle.std.proofs.Common.{sym, ℕ, ◌+◌, ◌≡◌, refl, Bool, true, false, ◌&&◌, ◌||◌, List, ◌++◌, length, ap, ◌∙◌, drop, arith, append_assoc, length-append}
+use Rattle.std.proofs.lemmas.List.{drop-append-le}
 use Rattle.socks_machine.specs.declared.record.Record.{Record}
 use Rattle.socks_machine.specs.declared.world.Object.{Object}
 use Rattle.socks_machine.specs.declared.world.TurnEvent.{TurnEvent}
 use Rattle.socks_machine.specs.Calls.{Context}
-use Rattle.socks_machine.specs.InTurn.{Sends, Going, Calm}
 use Rattle.socks_machine.specs.Owed.{replies}
 use Rattle.socks_machine.specs.Phase.{prelude_length}
-use Rattle.socks_machine.specs.Relaying.{RelayFacts, Relaying, MayTake, MayShut, relayed, relay_in_hand, due_c, due_t}
+use Rattle.socks_machine.specs.Relaying.{Relaying, MayTake, MayShut, relay_in_hand, due_c, due_t}
 use Rattle.socks_machine.specs.Taking.{some_in}
-use Rattle.socks_machine.proofs.ActLaws.{sends-grow, sends-more, sends_to_c, sends_to_t, idles, fills}
+use Rattle.socks_machine.proofs.ActLaws.{sends-grow, sends-more, idles, fills}
 
 -- ---- tools
 

@@ -1,5 +1,5 @@
 -- The relay's facts hold of a record: they promise something.
-use Rattle.std.proofs.Common.{ℕ, ◌≡◌, ◌≤◌, refl, Bool, true, false, Option, Some, None, List, [], ◌∷◌, ◌++◌, length, arith}
+use Rattle.std.proofs.Common.{◌≡◌, refl, true, false, Some, None, [], ◌∷◌, ◌++◌, arith}
 use Rattle.conf_model.specs.declared.protocol.Command.{Command}
 use Rattle.conf_model.specs.declared.protocol.Method.{Method}
 use Rattle.conf_model.specs.declared.protocol.Version.{Version}
@@ -11,14 +11,13 @@ use Rattle.socks_machine.specs.declared.world.NextMark.{NextMark}
 use Rattle.socks_machine.specs.declared.world.TurnEvent.{TurnEvent}
 use Rattle.socks_machine.specs.Calls.{Context, keep}
 use Rattle.socks_machine.specs.Fine.{begun_event}
-use Rattle.socks_machine.specs.Owed.{owed_to_client}
-use Rattle.socks_machine.specs.Relaying.{RelayFacts, Relaying, relayed}
+use Rattle.socks_machine.specs.Relaying.{RelayFacts, Relaying}
 use Rattle.socks_machine.specs.Socks.{socks}
 use Rattle.socks_machine.specs.Turn.{turn, marked}
 use Rattle.socks_machine.proofs.CallLaws.{reading-turn}
 use Rattle.socks_machine.proofs.RelayActs.{relay-c, relay-t}
 use Rattle.socks_machine.proofs.RelayLaws.{relaying-reads}
-use Rattle.socks_machine.proofs.Rows.Given.{at4, config, any, client_rule, socks_rule}
+use Rattle.socks_machine.proofs.Rows.Shared.{at4, config, any, client_rule, socks_rule}
 use Rattle.socks_machine.proofs.SocksRelay.{relay-facts}
 use Rattle.socks_machine.proofs.StartLaws.{relay-begins}
 use Rattle.socks_machine.proofs.TurnStages.{sound, left}

@@ -1,12 +1,10 @@
 -- The relay of a CONNECT without a proxy: the closed form is a reading turn.
-use Rattle.std.proofs.Common.{sym, ℕ, zero, suc, ◌+◌, ◌≡◌, refl, Bool, true, false, ◌&&◌, ◌||◌, not, if◌then◌else◌, Option, Some, None, List, [], ◌∷◌, ◌++◌, length, ap, subst, ◌∙◌, ◌≤◌, take, drop, ◌⊎◌, inl, inr, arith, append_assoc, length-append, is_none, is_some, option_and_then, option_map, filter_map}
-use Rattle.std.proofs.lemmas.List.{append-nil, drop-append-le}
+use Rattle.std.proofs.Common.{sym, ℕ, ◌≡◌, refl, Bool, true, false, ◌&&◌, ◌||◌, not, if◌then◌else◌, Option, Some, None, List, [], ◌++◌, length, ap, subst, ◌∙◌, drop, inl, inr, option_and_then, option_map, filter_map}
+use Rattle.std.proofs.lemmas.List.{append-nil}
 use Rattle.std.proofs.Math.Seq.{drop-append_seam}
-use Rattle.std.specs.List.{list_all}
 use Rattle.addr_pattern.specs.declared.endpoint.Endpoint.{Endpoint}
 use Rattle.socks_machine.specs.declared.cause.Cause.{Cause}
 use Rattle.conf_model.specs.declared.protocol.Command.{Command}
-use Rattle.socks_machine.specs.declared.record.Chosen.{Chosen}
 use Rattle.socks_machine.specs.declared.record.Gram.{Gram}
 use Rattle.socks_machine.specs.declared.record.Record.{Record}
 use Rattle.socks_machine.specs.declared.world.TurnEvent.{TurnEvent}
@@ -14,17 +12,13 @@ use Rattle.socks_machine.specs.Basis.{Basis}
 use Rattle.socks_machine.specs.Calls.{Context}
 use Rattle.socks_machine.specs.Datagrams.{owed_datagrams, fates_at, sent_by}
 use Rattle.socks_machine.specs.Decisions.{Grant, granted, reached_at, peer_let_in}
-use Rattle.conf_model.specs.Dialogue.{Outcome}
-use Rattle.socks_machine.specs.Front.{Proxy}
-use Rattle.conf_model.specs.Handshake.{Split}
-use Rattle.socks_machine.specs.InTurn.{Took, Takes, Takings, takings, Sends, Sendings, Reading, Shuts, StillShut, with_sendings}
-use Rattle.socks_machine.specs.Owed.{owed_to_client, owed_to_target, replies, replies_in, granted_replies_in, refusal_of_in, reply_at, has_target}
-use Rattle.socks_machine.specs.Phase.{Phase, phase, phase_in, way, began_by, began_after_in, relay_began_in, replies_length, prelude_length, client_payload_in, target_payload_in}
-use Rattle.socks_machine.specs.Relaying.{RelayFacts, Relaying, MayTake, MayShut, relayed, relay_in_hand, due_c, due_t}
+use Rattle.socks_machine.specs.InTurn.{Took, Takes, Takings, takings, Sends, Reading}
+use Rattle.socks_machine.specs.Owed.{owed_to_client, owed_to_target, replies_in, granted_replies_in, refusal_of_in, reply_at}
+use Rattle.socks_machine.specs.Phase.{Phase, phase, phase_in, way, began_by, began_after_in, relay_began_in, replies_length, client_payload_in, target_payload_in}
+use Rattle.socks_machine.specs.Relaying.{RelayFacts, Relaying, MayTake, relayed, due_c, due_t}
 use Rattle.socks_machine.specs.Settle.{settled, is_nothing}
-use Rattle.socks_machine.specs.Taking.{some_in, reads_target, reads_port, reads_client, of_generation, with_client_bytes, chosen_after, meet}
-use Rattle.socks_machine.specs.Turn.{client_may_be_shut, target_may_be_shut}
-use Rattle.socks_machine.specs.View.{View, view, length_of, split_of, proxy_of, proxy_of_grant, dialogue_of, outcome_with, outcome_of_grant, said_by_grant, said_with, login_passed}
+use Rattle.socks_machine.specs.Taking.{some_in, reads_target, reads_client, with_client_bytes, meet}
+use Rattle.socks_machine.specs.View.{View, view, length_of, split_of, proxy_of, proxy_of_grant, dialogue_of, outcome_with, outcome_of_grant, said_by_grant, said_with}
 use Rattle.socks_machine.proofs.ActLaws.{relay-stays}
 use Rattle.socks_machine.proofs.TakeLaws.{nothing-in}
 

@@ -1,12 +1,11 @@
 -- The relay of SOCKS: whatever the client says next changes nothing but its payload.
-use Rattle.std.proofs.Common.{sym, ℕ, ◌≡◌, ◌≤◌, refl, Bool, true, false, Option, Some, None, List, [], ◌∷◌, ◌++◌, length, ap, subst, ◌∙◌, is_some, option_map}
+use Rattle.std.proofs.Common.{sym, ℕ, ◌≡◌, ◌≤◌, refl, true, false, Option, Some, None, List, [], ◌∷◌, ◌++◌, length, ap, subst, ◌∙◌, is_some, option_map}
 use Rattle.addr_pattern.specs.declared.endpoint.Endpoint.{Endpoint}
 use Rattle.socks_machine.specs.declared.cause.Cause.{Cause}
 use Rattle.conf_model.specs.declared.protocol.Command.{Command}
 use Rattle.conf_model.specs.declared.user.User.{User}
 use Rattle.socks_machine.specs.declared.record.Chosen.{Chosen}
 use Rattle.socks_machine.specs.declared.record.Record.{Record}
-use Rattle.socks_machine.specs.Basis.{Basis}
 use Rattle.socks_machine.specs.Calls.{Context}
 use Rattle.socks_machine.specs.Front.{Front}
 use Rattle.conf_model.specs.Grammar.{greeting}
@@ -15,10 +14,10 @@ use Rattle.socks_machine.specs.Owed.{has_target}
 use Rattle.socks_machine.specs.Phase.{Phase, phase, relay_began, prelude_length}
 use Rattle.socks_machine.specs.PhaseFacts.{PhaseFacts, HasReached}
 use Rattle.socks_machine.specs.Relaying.{RelayFacts}
-use Rattle.socks_machine.specs.Socks.{socks_front, success}
+use Rattle.socks_machine.specs.Socks.{socks_front}
 use Rattle.conf_model.specs.Stable.{SplitExtends}
 use Rattle.socks_machine.specs.Taking.{chosen_after}
-use Rattle.socks_machine.specs.View.{view, split_of, proxy_of, login_passed, asks_login, login_fits_behind}
+use Rattle.socks_machine.specs.View.{view, proxy_of, asks_login, login_fits_behind}
 use Rattle.conf_model.proofs.GrammarLaws.{split-extends}
 use Rattle.socks_machine.proofs.PhaseFactsLaws.{phase-says}
 

@@ -1,24 +1,23 @@
 -- How a turn begins, and how a relay ends.
-use Rattle.std.proofs.Common.{sym, ℕ, zero, suc, ◌+◌, ◌≡◌, refl, Bool, true, false, ◌&&◌, ◌||◌, not, if◌then◌else◌, Option, Some, None, List, [], ◌∷◌, ◌++◌, length, ap, subst, ◌∙◌, take, drop, inl, inr, append_assoc, length-append, is_some, is_none}
+use Rattle.std.proofs.Common.{sym, ℕ, ◌≡◌, refl, Bool, true, false, ◌&&◌, ◌||◌, not, if◌then◌else◌, Some, None, List, [], ◌++◌, length, ap, ◌∙◌, drop, inl, is_some}
 use Rattle.std.proofs.lemmas.List.{append-nil}
 use mathlib.Core.List.{IsPrefix}
 use Rattle.socks_machine.specs.declared.cause.Cause.{Cause}
-use Rattle.socks_machine.specs.declared.record.Gram.{Gram}
 use Rattle.socks_machine.specs.declared.record.Record.{Record}
 use Rattle.socks_machine.specs.declared.world.Object.{Object}
 use Rattle.socks_machine.specs.declared.world.TurnEvent.{TurnEvent}
-use Rattle.socks_machine.specs.Calls.{Context, TurnResult, keep}
+use Rattle.socks_machine.specs.Calls.{Context, keep}
 use Rattle.socks_machine.specs.Datagrams.{owed_datagrams}
 use Rattle.socks_machine.specs.Decisions.{granted}
 use Rattle.socks_machine.specs.Fine.{begun_event}
-use Rattle.socks_machine.specs.InTurn.{Took, Takes, takings, Sends, Sendings, Reading, InTurn, Shuts, StillShut, Going, Calm, with_sendings}
+use Rattle.socks_machine.specs.InTurn.{Sends, Reading, InTurn, with_sendings}
 use Rattle.socks_machine.specs.Owed.{owed_to_client, owed_to_target, pending_to_client, pending_to_target}
 use Rattle.socks_machine.specs.Phase.{Phase, phase, relay_began_in, phase_opened_in}
 use Rattle.socks_machine.specs.Decisions.{opened}
-use Rattle.socks_machine.specs.Relaying.{RelayFacts, Relaying, MayTake, MayShut, relayed, relay_in_hand, due_c, due_t}
-use Rattle.socks_machine.specs.Settle.{fix, first_cause, settled, cause_in, is_finished, is_nothing}
-use Rattle.socks_machine.specs.Turn.{with_fault, with_shut, guard, is_there, fault_cause, client_may_be_shut, target_may_be_shut}
-use Rattle.socks_machine.specs.View.{View, view}
+use Rattle.socks_machine.specs.Relaying.{RelayFacts, Relaying, relayed, due_c, due_t}
+use Rattle.socks_machine.specs.Settle.{fix, first_cause, settled, cause_in, is_nothing}
+use Rattle.socks_machine.specs.Turn.{with_fault, guard, is_there, fault_cause, client_may_be_shut, target_may_be_shut}
+use Rattle.socks_machine.specs.View.{view}
 use Rattle.socks_machine.proofs.ActLaws.{still-open, sendings-over, shuts-are, with_shuts, may, both}
 use Rattle.socks_machine.proofs.CallLaws.{reading-turn}
 use Rattle.socks_machine.proofs.RelayLaws.{relaying-reads, relay-owes-c, relay-owes-caused, relay-owes-t, all-sent, four, alike, began-same}

@@ -1,29 +1,21 @@
 -- The acts of a turn, one law each: on what it has taken, and on a turn that reads.
-use Rattle.std.proofs.Common.{sym, ℕ, zero, suc, ◌+◌, ◌≡◌, refl, Bool, true, false, ◌&&◌, ◌||◌, not, Option, Some, None, List, [], ◌∷◌, ◌++◌, length, ap, subst, ◌∙◌, ◌≤◌, take, drop, ◌⊎◌, inl, inr, arith, append_assoc, length-append, is_none, is_some, nat_lt}
-use Rattle.std.proofs.lemmas.List.{append-nil}
-use Rattle.std.specs.List.{list_any, list_all}
+use Rattle.std.proofs.Common.{sym, ℕ, ◌≡◌, refl, Bool, true, false, ◌&&◌, ◌||◌, Option, Some, None, List, [], ◌∷◌, ◌++◌, length, ap, subst, ◌∙◌, inl, inr, append_assoc, nat_lt}
+use Rattle.std.specs.List.{list_all}
 use Rattle.addr_pattern.specs.declared.endpoint.Endpoint.{Endpoint}
 use Rattle.socks_machine.specs.declared.cause.Cause.{Cause}
 use Rattle.conf_model.specs.declared.protocol.Method.{Method}
 use Rattle.socks_machine.specs.declared.record.Chosen.{Chosen}
 use Rattle.socks_machine.specs.declared.record.Record.{Record}
 use Rattle.socks_machine.specs.declared.world.Object.{Object}
-use Rattle.socks_machine.specs.declared.world.Outer.{Outer}
-use Rattle.socks_machine.specs.declared.world.NextMark.{NextMark}
 use Rattle.socks_machine.specs.Basis.{Basis}
-use Rattle.socks_machine.specs.Calls.{Context, TurnResult, keep, call, is_calling}
-use Rattle.socks_machine.specs.Datagrams.{owed_datagrams}
-use Rattle.socks_machine.specs.Decisions.{Grant}
 use Rattle.conf_model.specs.Grammar.{Read, greeting}
 use Rattle.conf_model.specs.Handshake.{offered, offered_by}
 use Rattle.socks_machine.specs.InTurn.{Took, Takes, Takings}
-use Rattle.socks_machine.specs.Owed.{owed_to_client, owed_to_target}
-use Rattle.socks_machine.specs.Phase.{Phase, phase, began, client_payload}
+use Rattle.socks_machine.specs.Phase.{Phase, phase, client_payload}
 use Rattle.socks_machine.specs.Settle.{fix, first_cause, settled, cause_in}
 use Rattle.conf_model.specs.Stable.{Extends}
 use Rattle.socks_machine.specs.Taking.{some_in, reads_target, reads_port, reads_client, of_generation, meet, choose_from, chosen_after, with_client_bytes, holds, pipe_size}
 use Rattle.socks_machine.specs.Equal.{object_eq}
-use Rattle.socks_machine.specs.Turn.{with_fault, with_memory, with_shut, client_may_be_shut, target_may_be_shut, fault_cause}
 use Rattle.conf_model.proofs.GrammarLaws.{greeting-stable}
 
 -- ---- tools

@@ -1,9 +1,7 @@
 -- A turn that talks with the client: what it takes, as the record in hand has it.
-use Rattle.std.proofs.Common.{sym, ℕ, ◌≡◌, refl, Bool, true, false, ◌||◌, Option, Some, None, List, [], ◌∷◌, ◌++◌, ap, subst, ◌∙◌, is_some}
+use Rattle.std.proofs.Common.{sym, ℕ, ◌≡◌, refl, Bool, true, false, Some, None, List, [], ◌∷◌, ◌++◌, ap, subst, ◌∙◌}
 use Rattle.std.proofs.lemmas.List.{append-nil}
 use mathlib.Core.List.{IsPrefix}
-use Rattle.socks_machine.specs.declared.cause.Cause.{Cause}
-use Rattle.socks_machine.specs.declared.record.Gram.{Gram}
 use Rattle.socks_machine.specs.declared.record.Record.{Record}
 use Rattle.socks_machine.specs.declared.world.TurnEvent.{TurnEvent}
 use Rattle.socks_machine.specs.Basis.{Basis}
@@ -11,7 +9,7 @@ use Rattle.socks_machine.specs.Calls.{Context}
 use Rattle.socks_machine.specs.Datagrams.{owed_datagrams}
 use Rattle.socks_machine.specs.Decisions.{granted}
 use Rattle.socks_machine.specs.Front.{Front}
-use Rattle.socks_machine.specs.InTurn.{Grows, StillShut, Shuts, Reading, with_sendings, in_hand}
+use Rattle.socks_machine.specs.InTurn.{Grows, Shuts, Reading, with_sendings, in_hand}
 use Rattle.socks_machine.specs.Owed.{owed_to_client, owed_to_target}
 use Rattle.socks_machine.specs.Phase.{Phase, phase}
 use Rattle.socks_machine.specs.PhaseFacts.{PhaseFacts, HasReached}

@@ -1,5 +1,5 @@
 -- A turn that has called nothing is what is said of it stage by stage.
-use Rattle.std.proofs.Common.{sym, ℕ, zero, suc, ◌+◌, ◌≡◌, refl, Bool, true, false, ◌&&◌, ◌||◌, not, Option, Some, None, List, [], ◌∷◌, ◌++◌, length, ap, subst, ◌∙◌, ◌≤◌, take, drop, ◌⊎◌, inl, inr, arith, append_assoc, length-append, length-drop, length-take, nat_le}
+use Rattle.std.proofs.Common.{sym, ℕ, zero, suc, ◌+◌, ◌≡◌, refl, Bool, true, false, ◌&&◌, ◌||◌, not, Option, Some, None, List, [], ◌∷◌, ◌++◌, length, ap, subst, ◌∙◌, ◌≤◌, take, drop, inl, inr, arith, append_assoc, length-append, length-take, nat_le}
 use Rattle.std.proofs.lemmas.List.{append-nil, take-append-drop}
 use Rattle.std.proofs.lemmas.Bool.Decides.{nat_tests}
 use Rattle.std.proofs.Math.Seq.{drop-append_seam}
@@ -13,12 +13,12 @@ use Rattle.socks_machine.specs.declared.world.TurnEvent.{TurnEvent}
 use Rattle.socks_machine.specs.Basis.{Basis}
 use Rattle.socks_machine.specs.Calls.{Context, TurnResult, keep, call}
 use Rattle.socks_machine.specs.Datagrams.{owed_datagrams}
-use Rattle.socks_machine.specs.InTurn.{Took, Takes, takings, Sends, Sendings, Shuts, StillShut, Going, Calm, Reading, InTurn, with_sendings, CallsFirst}
+use Rattle.socks_machine.specs.InTurn.{Took, Takes, takings, Sends, Sendings, Calm, Reading, InTurn, with_sendings, CallsFirst}
 use Rattle.socks_machine.specs.Owed.{owed_to_client, owed_to_target}
 use Rattle.socks_machine.specs.Phase.{Phase, phase}
 use Rattle.socks_machine.specs.Settle.{settled}
 use Rattle.socks_machine.specs.Taking.{◌>>=◌, some_in, taking, taken, meet, reads_target, reads_port, reads_client, of_generation, with_client_bytes}
-use Rattle.socks_machine.specs.Turn.{grown, guard, turn, turn_with, proceed, aged, marked, Calling, ended, after_call, without_call, after_none, may_output, uncalled as uncalled-end, output, output_of, fault_fits, with_fault, with_memory, with_sent, with_shut, shut_sides, client_may_be_shut, target_may_be_shut}
+use Rattle.socks_machine.specs.Turn.{grown, guard, turn, turn_with, proceed, aged, marked, Calling, ended, after_call, without_call, may_output, uncalled as uncalled-end, output, output_of, fault_fits, with_fault, with_memory, with_sent, with_shut, shut_sides, client_may_be_shut, target_may_be_shut}
 use Rattle.socks_machine.proofs.TurnStages.{ended-going, makes-none, sound, left}
 use Rattle.socks_machine.proofs.ActLaws.{unshut, still-open, taken_c}
 use Rattle.socks_machine.proofs.TakeLaws.{met-none}

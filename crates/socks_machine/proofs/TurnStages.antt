@@ -1,14 +1,10 @@
 -- A turn stage by stage, and the turn itself.
-use Rattle.std.proofs.Common.{sym, ℕ, zero, suc, ◌+◌, ◌≡◌, refl, Bool, true, false, ◌&&◌, ◌||◌, not, Option, Some, None, List, [], ◌∷◌, ◌++◌, length, ap, subst, ◌∙◌, ◌≤◌, take, drop, le-leb, ◌⊎◌, inl, inr, arith, append_assoc, length-append, is_none, nat_le}
+use Rattle.std.proofs.Common.{sym, ℕ, suc, ◌+◌, ◌≡◌, refl, Bool, true, false, ◌&&◌, ◌||◌, Option, Some, None, List, [], ◌∷◌, ◌++◌, length, ap, subst, ◌∙◌, take, drop, le-leb, inl, inr, arith, append_assoc, length-append}
 use Rattle.std.proofs.lemmas.List.{append-nil}
 use Rattle.std.proofs.Math.Seq.{take-append_seam, drop-append_seam}
 use Rattle.std.specs.List.{list_all}
-use Rattle.addr_pattern.specs.declared.endpoint.Endpoint.{Endpoint}
-use Rattle.socks_machine.specs.declared.cause.Cause.{Cause}
 use Rattle.conf_model.specs.declared.protocol.Method.{Method}
-use Rattle.socks_machine.specs.declared.record.Chosen.{Chosen}
 use Rattle.socks_machine.specs.declared.record.Record.{Record}
-use Rattle.socks_machine.specs.declared.world.Object.{Object}
 use Rattle.socks_machine.specs.declared.world.Outer.{Outer}
 use Rattle.socks_machine.specs.declared.world.NextMark.{NextMark}
 use Rattle.socks_machine.specs.declared.world.TurnEvent.{TurnEvent}
@@ -16,12 +12,12 @@ use Rattle.socks_machine.specs.Basis.{Basis}
 use Rattle.socks_machine.specs.Calls.{Context, TurnResult, keep, call, is_calling}
 use Rattle.socks_machine.specs.Datagrams.{owed_datagrams}
 use Rattle.socks_machine.specs.Equal.{mark_eq}
-use Rattle.socks_machine.specs.InTurn.{Took, Takes, takings, Sends, Sendings, Called, Calls, InTurn, is_call, with_sendings, CallsFirst}
+use Rattle.socks_machine.specs.InTurn.{Took, Takes, takings, Sends, Sendings, Calls, InTurn, is_call, with_sendings, CallsFirst}
 use Rattle.socks_machine.specs.Owed.{owed_to_client, owed_to_target}
-use Rattle.socks_machine.specs.Phase.{Phase, phase, began}
-use Rattle.socks_machine.specs.Settle.{fix, settled}
-use Rattle.socks_machine.specs.Taking.{◌>>=◌, some_in, taking, taken, meet, reads_target, reads_port, reads_client, of_generation, with_client_bytes}
-use Rattle.socks_machine.specs.Turn.{grown, guard, turn, turn_with, ordinary, proceed, aged, moves, marked, ended, may_end, answer_after, is_answer, Calling, with_record, after_call, without_call, after_none, uncalled, makes_call, output, output_of, fault_fits, with_fault, with_memory, with_sent, with_shut, shut_sides, client_may_be_shut, target_may_be_shut}
+use Rattle.socks_machine.specs.Phase.{Phase, phase}
+use Rattle.socks_machine.specs.Settle.{settled}
+use Rattle.socks_machine.specs.Taking.{◌>>=◌, some_in, taking, taken, reads_target, reads_port, reads_client, of_generation, with_client_bytes}
+use Rattle.socks_machine.specs.Turn.{grown, turn, turn_with, proceed, aged, marked, ended, answer_after, is_answer, Calling, after_call, without_call, after_none, uncalled, makes_call, output, output_of, fault_fits, with_fault, with_memory, with_shut}
 
 -- ---- tools
 

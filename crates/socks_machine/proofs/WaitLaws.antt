@@ -1,19 +1,13 @@
 -- The answers of a turn that made no call.
-use Rattle.std.proofs.Common.{sym, ℕ, ◌≡◌, refl, Bool, true, false, ◌&&◌, ◌||◌, not, if◌then◌else◌, Option, Some, None, List, ap, subst, ◌∙◌, is_some, is_none}
-use Rattle.socks_machine.specs.declared.cause.Cause.{Cause}
+use Rattle.std.proofs.Common.{sym, ◌≡◌, refl, Bool, true, false, ◌&&◌, ◌||◌, not, if◌then◌else◌, Option, Some, None, ap, subst, ◌∙◌, is_some, is_none}
 use Rattle.socks_machine.specs.declared.record.Record.{Record}
-use Rattle.socks_machine.specs.declared.world.Object.{Object}
 use Rattle.socks_machine.specs.declared.world.NextMark.{NextMark}
 use Rattle.socks_machine.specs.declared.world.TurnEvent.{TurnEvent}
-use Rattle.socks_machine.specs.Basis.{Basis}
 use Rattle.socks_machine.specs.Calls.{Context, keep, is_calling}
 use Rattle.socks_machine.specs.Decisions.{is_opened}
 use Rattle.socks_machine.specs.InTurn.{Reading, InTurn}
-use Rattle.socks_machine.specs.Owed.{pending_to_client, pending_to_target}
-use Rattle.socks_machine.specs.Phase.{Phase, phase}
-use Rattle.socks_machine.specs.Settle.{is_nothing}
-use Rattle.socks_machine.specs.Taking.{holds}
-use Rattle.socks_machine.specs.Turn.{turn, aged, marked, answer_after, Calling, took_quantum, rests, rests_in, sinks_rest, sources_rest, sides_rest, close_is_due, times_out, is_late, nothing_pending, is_quiet, with_memory, is_mute, may_output}
+use Rattle.socks_machine.specs.Phase.{phase}
+use Rattle.socks_machine.specs.Turn.{turn, aged, marked, took_quantum, rests, sinks_rest, sources_rest, sides_rest, close_is_due, times_out, is_late, nothing_pending, is_quiet, with_memory, is_mute, may_output}
 use Rattle.socks_machine.proofs.CallLaws.{reading-turn, answers, or-right, or-not, calm-fits}
 use Rattle.socks_machine.proofs.TalkLaws.{hand-is}
 

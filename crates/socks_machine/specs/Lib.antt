@@ -14,6 +14,7 @@ pub mod Laws
 pub mod LogText
 pub mod Owed
 pub mod Phase
+pub mod PhaseActs
 pub mod PhaseFacts
 pub mod Ranges
 pub mod Relaying

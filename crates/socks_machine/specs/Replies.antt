@@ -9,39 +9,42 @@ use Rattle.conf_model.specs.declared.protocol.Method.{Method}
 use Rattle.conf_model.specs.declared.protocol.Version.{Version}
 use Rattle.conf_model.specs.declared.protocol.Stage.{Stage}
 use Rattle.socks_machine.specs.declared.cause.Cause.{Cause}
-use Rattle.conf_model.specs.Grammar.{spelled_endpoint}
+use Rattle.conf_model.specs.Grammar.{method_byte, spelled_endpoint}
 
+-- the code of a method (RFC 1928, section 3)
 abbrev pub method_code : Method → ℕ
-method_code Method.NoAuth = 0
-method_code Method.Username = 2
+method_code method = method_byte method
 
--- the first of the methods that was offered, else FF
+-- the first of the methods that was offered, else FF (RFC 1928, section 3)
 abbrev pub choose : List Method → List ℕ → ℕ
 choose [] offered = 255
 choose (m ∷ ms) offered = if list_any (λ b. b == method_code m) offered then method_code m else choose ms offered
 
+-- the answer to a greeting (RFC 1928, section 3)
 abbrev pub method_reply : ℕ → List ℕ
 method_reply method = 5 ∷ method ∷ []
 
+-- the answer to a login: 0 is success (RFC 1929, section 2)
 abbrev pub login_reply : Bool → List ℕ
 login_reply true = 1 ∷ 0 ∷ []
 login_reply false = 1 ∷ 1 ∷ []
 
--- an address of IPv6 is written as 0.0.0.0
+-- an address of IPv6 is written as 0.0.0.0 (the SOCKS 4 memo)
 abbrev pub endpoint4_bytes : Endpoint → Addr → List ℕ
 endpoint4_bytes e (Addr.V4 n) = to_be_bytes w16 e.port ++ to_be_bytes w32 n
 endpoint4_bytes e (Addr.V6 n) = to_be_bytes w16 e.port ++ 0 ∷ 0 ∷ 0 ∷ 0 ∷ []
 
+-- the reply of success (the SOCKS 4 memo: 90; a CONNECT's port and address are ignored)
 abbrev pub granted4 : Command → Endpoint → List ℕ
 granted4 Command.Connect e = 0 ∷ 90 ∷ replicate 6 0
 granted4 _ e = 0 ∷ 90 ∷ endpoint4_bytes e e.addr
 
--- a reply of success
+-- a reply of success (RFC 1928, section 6, and the SOCKS 4 memo)
 abbrev pub granted_reply : Version → Command → Endpoint → List ℕ
 granted_reply Version.V4 command e = granted4 command e
 granted_reply Version.V5 command e = 5 ∷ 0 ∷ 0 ∷ spelled_endpoint e
 
--- a failing reply
+-- a failing reply (RFC 1928, section 6, and the SOCKS 4 memo: 91, rejected or failed)
 abbrev pub failing_reply : Version → ℕ → List ℕ
 failing_reply Version.V4 code = 0 ∷ 91 ∷ replicate 6 0
 failing_reply Version.V5 code = 5 ∷ code ∷ 0 ∷ 1 ∷ replicate 6 0
@@ -52,19 +55,22 @@ pub record RefusedAt : Type 0 where
   pub proxy5 : Bool
   pub granting_udp : Bool
 
+-- the codes of a proxy that say the same of this server (RFC 1928, section 6: network unreachable, host unreachable, connection refused)
 abbrev pub is_handed_on : ℕ → Bool
 is_handed_on code = code == 3 || code == 4 || code == 5
 
+-- the code for a refusal of a proxy (RFC 1928, section 6: 1 is a general failure)
 abbrev pub upstream_code : Bool → Stage → ℕ → ℕ
 upstream_code true Stage.Reply code = if is_handed_on code then code else 1
 upstream_code _ _ _ = 1
 
--- The answer to each cause: a code of SOCKS 5 (91 in SOCKS 4), or bytes of their own, or nothing.
+-- The answer to each cause: a code of SOCKS 5 (91 in SOCKS 4), or bytes of their own, or nothing (RFC 1928, section 6).
 pub data Answer : Type 0 where
   Code : ℕ → Answer
   Bytes : List ℕ → Answer
   Silence : Answer
 
+-- the answer to a cause (RFC 1928, section 6; 05 FF: section 3; 01 01: RFC 1929, section 2)
 abbrev pub answer_to : RefusedAt → Cause → Answer
 answer_to w (Cause.Denied g v) = Code 2
 answer_to w (Cause.Full g l r held limit) = Code 2
@@ -91,12 +97,13 @@ answer_to w Cause.LoginFailed = Bytes (1 ∷ 1 ∷ [])
 answer_to w (Cause.BadVersion at byte) = if w.in_login then Bytes (1 ∷ 1 ∷ []) else Code 1
 answer_to w _ = Silence
 
+-- its bytes (RFC 1928, section 6; none is owed before the version is known)
 abbrev pub bytes_of_answer : Option Version → Answer → List ℕ
 bytes_of_answer None _ = []
 bytes_of_answer (Some v) (Code c) = failing_reply v c
 bytes_of_answer (Some v) (Bytes bs) = bs
 bytes_of_answer (Some v) Silence = []
 
--- the refusal that a cause owes the client
+-- the refusal that a cause owes the client (RFC 1928, section 6, and the SOCKS 4 memo)
 abbrev pub refusal : Option Version → RefusedAt → Cause → List ℕ
 refusal v w cause = bytes_of_answer v (answer_to w cause)

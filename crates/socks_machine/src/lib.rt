@@ -3,6 +3,7 @@
 
 mod cause;
 mod fine;
+pub mod laws;
 mod lines;
 mod record;
 mod script;

@@ -1,4 +1,7 @@
-use crate::cause::StopBy;
+ghost use Rattle.std.specs.Prelude.{◌≡◌};
+ghost use Rattle.socks_machine.specs.Turn.{fault_cause};
+
+use crate::cause::{Cause, StopBy};
 use crate::lines::Line;
 use crate::record::{Gram, Record};
 use addr_pattern::{Addr, Endpoint};
@@ -12,6 +15,20 @@ pub enum Object {
     Target,
     Door,
     Port,
+}
+
+impl Object {
+    /// The cause that a failed call on this object fixes, where none stands yet.
+    pub fn fault(self) -> Cause
+        ensures { result ≡ fault_cause self }
+    {
+        match self {
+            Object::Client => Cause::ClientFault,
+            Object::Target => Cause::TargetFault,
+            Object::Door => Cause::DoorFault,
+            Object::Port => Cause::PortFault,
+        }
+    }
 }
 
 /// How the outer call of a turn came out.

@@ -7,12 +7,15 @@ use Rattle.socks_machine.specs.declared.world.Object.{Object}
 use Rattle.socks_machine.specs.declared.world.Outer.{Outer}
 use Rattle.socks_machine.specs.declared.world.NextMark.{NextMark}
 use Rattle.socks_machine.specs.declared.world.Event.{Event}
-use Rattle.socks_machine.proofs.Rows.Given.{k1, config, client_rule, socks_rule, any, net, quiet, told, logged, at4, at6, client_at, local_at}
+use Rattle.socks_machine.proofs.Rows.Shared.{all_pass, config, client_rule, socks_rule, any, net, quiet, told, logged, at4, at6, client_at, local_at, to_one_net}
+use Rattle.socks_machine.specs.Step.{fresh}
+use Rattle.socks_machine.specs.Socks.{socks}
+use Rattle.socks_machine.specs.Phase.{client_payload}
 
 -- the request and payload in one piece
 abbrev pub payload_behind : List Event
 payload_behind =
-    Event.Publish (k1)
+    Event.Publish (all_pass)
     ∷ Event.See 1 1
     ∷ Event.Open 1 1 client_at local_at 0
     ∷ Event.Turn (record (quiet 1 1 0) { outer = Outer.Desk true; next = NextMark.Again })
@@ -26,7 +29,7 @@ payload_behind_text = refl
 -- the same, byte by byte
 abbrev pub byte_by_byte : List Event
 byte_by_byte =
-    Event.Publish (k1)
+    Event.Publish (all_pass)
     ∷ Event.See 1 1
     ∷ Event.Open 1 1 client_at local_at 0
     ∷ Event.Turn (record (quiet 1 1 0) { outer = Outer.Desk true; next = NextMark.Again })
@@ -53,13 +56,10 @@ byte_by_byte =
 pub byte_by_byte_text : told [] 1 22 byte_by_byte ≡ (codes "client 1 050005000001c00002099c40" ++ 10 ∷ []) ++ (codes "target 1 68656c6c6f" ++ 10 ∷ []) ++ (codes "end 1 open" ++ 10 ∷ [])
 byte_by_byte_text = refl
 
-abbrev pub k_small : Config
-k_small = config (Method.NoAuth ∷ []) (client_rule true any any ∷ []) (socks_rule true any (net 0xC0000200 24) None ∷ []) []
-
 -- no socks rule matches
 abbrev pub denied : List Event
 denied =
-    Event.Publish (k_small)
+    Event.Publish (to_one_net)
     ∷ Event.See 1 1
     ∷ Event.Open 1 1 client_at local_at 0
     ∷ Event.Turn (record (quiet 1 1 0) { outer = Outer.Desk true; next = NextMark.Again })
@@ -74,13 +74,13 @@ denied_text = refl
 pub denied_log : logged [] 1 denied ≡ Some ((codes "1 open 1 gen 1 client 1 pass from 10.0.0.5:5000 to 127.0.0.1:1080" ++ 10 ∷ []) ++ (codes "2 grant 1 gen 1 client 1 socks none block connect v5 none user - from 10.0.0.5:5000 to 198.51.100.10:80 name -" ++ 10 ∷ []) ++ (codes "3 close 1 denied gen 1 client 1 socks none took 18 0 sent 12 0" ++ 10 ∷ []))
 denied_log = refl
 
-abbrev pub k_block : Config
-k_block = config (Method.NoAuth ∷ []) (client_rule false (net 0x0A000000 8) any ∷ client_rule true any any ∷ []) (socks_rule true any any None ∷ []) []
+abbrev pub blocks_one_net : Config
+blocks_one_net = config (Method.NoAuth ∷ []) (client_rule false (net 0x0A000000 8) any ∷ client_rule true any any ∷ []) (socks_rule true any any None ∷ []) []
 
 -- the client rule blocks
 abbrev pub client_blocked : List Event
 client_blocked =
-    Event.Publish (k_block)
+    Event.Publish (blocks_one_net)
     ∷ Event.See 1 1
     ∷ Event.Open 1 1 client_at local_at 0
     ∷ Event.Turn (record (quiet 1 1 0) { outer = Outer.Desk true; next = NextMark.Done })
@@ -95,7 +95,7 @@ client_blocked_log = refl
 -- the dial is refused
 abbrev pub refused5 : List Event
 refused5 =
-    Event.Publish (k1)
+    Event.Publish (all_pass)
     ∷ Event.See 1 1
     ∷ Event.Open 1 1 client_at local_at 0
     ∷ Event.Turn (record (quiet 1 1 0) { outer = Outer.Desk true; next = NextMark.Again })
@@ -109,7 +109,7 @@ refused5_text = refl
 
 abbrev pub refused4 : List Event
 refused4 =
-    Event.Publish (k1)
+    Event.Publish (all_pass)
     ∷ Event.See 1 1
     ∷ Event.Open 1 1 client_at local_at 0
     ∷ Event.Turn (record (quiet 1 1 0) { outer = Outer.Desk true; next = NextMark.Again })
@@ -124,7 +124,7 @@ refused4_text = refl
 -- no method
 abbrev pub no_method0 : List Event
 no_method0 =
-    Event.Publish (k1)
+    Event.Publish (all_pass)
     ∷ Event.See 1 1
     ∷ Event.Open 1 1 client_at local_at 0
     ∷ Event.Turn (record (quiet 1 1 0) { outer = Outer.Desk true; next = NextMark.Again })
@@ -139,7 +139,7 @@ no_method0_log = refl
 
 abbrev pub no_method1 : List Event
 no_method1 =
-    Event.Publish (k1)
+    Event.Publish (all_pass)
     ∷ Event.See 1 1
     ∷ Event.Open 1 1 client_at local_at 0
     ∷ Event.Turn (record (quiet 1 1 0) { outer = Outer.Desk true; next = NextMark.Again })
@@ -152,7 +152,7 @@ no_method1_text = refl
 -- SOCKS 4A
 abbrev pub by_name4 : List Event
 by_name4 =
-    Event.Publish (k1)
+    Event.Publish (all_pass)
     ∷ Event.See 1 1
     ∷ Event.Open 1 1 client_at local_at 0
     ∷ Event.Turn (record (quiet 1 1 0) { outer = Outer.Desk true; next = NextMark.Again })
@@ -170,7 +170,7 @@ by_name4_log = refl
 -- a usual request by name
 abbrev pub by_name5 : List Event
 by_name5 =
-    Event.Publish (k1)
+    Event.Publish (all_pass)
     ∷ Event.See 1 1
     ∷ Event.Open 1 1 client_at local_at 0
     ∷ Event.Turn (record (quiet 1 1 0) { outer = Outer.Desk true; next = NextMark.Again })
@@ -188,7 +188,7 @@ by_name5_log = refl
 
 abbrev pub not_found : List Event
 not_found =
-    Event.Publish (k1)
+    Event.Publish (all_pass)
     ∷ Event.See 1 1
     ∷ Event.Open 1 1 client_at local_at 0
     ∷ Event.Turn (record (quiet 1 1 0) { outer = Outer.Desk true; next = NextMark.Again })
@@ -206,7 +206,7 @@ not_found_log = refl
 -- bad bytes
 abbrev pub bad_request0 : List Event
 bad_request0 =
-    Event.Publish (k1)
+    Event.Publish (all_pass)
     ∷ Event.See 1 1
     ∷ Event.Open 1 1 client_at local_at 0
     ∷ Event.Turn (record (quiet 1 1 0) { outer = Outer.Desk true; next = NextMark.Again })
@@ -220,7 +220,7 @@ bad_request0_text = refl
 -- bad bytes
 abbrev pub bad_request1 : List Event
 bad_request1 =
-    Event.Publish (k1)
+    Event.Publish (all_pass)
     ∷ Event.See 1 1
     ∷ Event.Open 1 1 client_at local_at 0
     ∷ Event.Turn (record (quiet 1 1 0) { outer = Outer.Desk true; next = NextMark.Again })
@@ -234,7 +234,7 @@ bad_request1_text = refl
 -- bad bytes
 abbrev pub bad_request2 : List Event
 bad_request2 =
-    Event.Publish (k1)
+    Event.Publish (all_pass)
     ∷ Event.See 1 1
     ∷ Event.Open 1 1 client_at local_at 0
     ∷ Event.Turn (record (quiet 1 1 0) { outer = Outer.Desk true; next = NextMark.Again })
@@ -247,7 +247,7 @@ bad_request2_text = refl
 
 abbrev pub bad_version : List Event
 bad_version =
-    Event.Publish (k1)
+    Event.Publish (all_pass)
     ∷ Event.See 1 1
     ∷ Event.Open 1 1 client_at local_at 0
     ∷ Event.Turn (record (quiet 1 1 0) { outer = Outer.Desk true; next = NextMark.Again })
@@ -260,7 +260,7 @@ bad_version_text = refl
 -- both directions, the client slow
 abbrev pub relayed : List Event
 relayed =
-    Event.Publish (k1)
+    Event.Publish (all_pass)
     ∷ Event.See 1 1
     ∷ Event.Open 1 1 client_at local_at 0
     ∷ Event.Turn (record (quiet 1 1 0) { outer = Outer.Desk true; next = NextMark.Again })
@@ -280,7 +280,7 @@ relayed_log = refl
 -- many bytes
 abbrev pub many : List Event
 many =
-    Event.Publish (k1)
+    Event.Publish (all_pass)
     ∷ Event.See 1 1
     ∷ Event.Open 1 1 client_at local_at 0
     ∷ Event.Turn (record (quiet 1 1 0) { outer = Outer.Desk true; next = NextMark.Again })
@@ -292,3 +292,6 @@ many =
 
 pub many_log : logged [] 1 many ≡ Some ((codes "1 open 1 gen 1 client 1 pass from 10.0.0.5:5000 to 127.0.0.1:1080" ++ 10 ∷ []) ++ (codes "2 grant 1 gen 1 client 1 socks 1 pass connect v5 none user - from 10.0.0.5:5000 to 198.51.100.10:80 name -" ++ 10 ∷ []) ++ (codes "3 close 1 finished took 13 40000 sent 40012 0" ++ 10 ∷ []))
 many_log = refl
+
+pub payload_of_talk : client_payload (socks [] []) (record (fresh 1 client_at local_at 0) { c = 5 ∷ 1 ∷ [] }) ≡ 5 ∷ 1 ∷ []
+payload_of_talk = refl

@@ -1,5 +1,5 @@
 -- A script that the relation allows: it promises something.
-use Rattle.std.proofs.Common.{ℕ, zero, suc, ◌≡◌, refl, Bool, true, false, Option, Some, None, List, [], ◌∷◌, ◌++◌, arith}
+use Rattle.std.proofs.Common.{zero, suc, ◌≡◌, refl, true, false, Some, List, [], ◌∷◌, ◌++◌, arith}
 use Rattle.std.specs.Prelude.{All, Contains, IsTrue}
 use Rattle.socks_machine.specs.declared.world.Object.{Object}
 use Rattle.socks_machine.specs.declared.world.Outer.{Outer}
@@ -11,11 +11,11 @@ use Rattle.socks_machine.specs.Script.{first_surroundings, follows, did}
 use Rattle.socks_machine.specs.declared.script.ScriptLine.{ScriptLine}
 use Rattle.socks_machine.specs.declared.script.CallKind.{CallKind}
 use Rattle.socks_machine.specs.Taking.{holds}
-use Rattle.socks_machine.proofs.Rows.Given.{k1, quiet, client_at, local_at}
+use Rattle.socks_machine.proofs.Rows.Shared.{all_pass, quiet, client_at, local_at}
 
 abbrev script : List ScriptLine
 script =
-    ScriptLine.Publish k1 ∷ ScriptLine.See 1 ∷ ScriptLine.Open 1 1 client_at local_at ∷ ScriptLine.Turn 1 1
+    ScriptLine.Publish all_pass ∷ ScriptLine.See 1 ∷ ScriptLine.Open 1 1 client_at local_at ∷ ScriptLine.Turn 1 1
     ∷ ScriptLine.Fault 1 Object.Client CallKind.Reading ∷ ScriptLine.Turn 1 1 ∷ []
 
 abbrev ev1 : TurnEvent
@@ -25,7 +25,7 @@ abbrev ev2 : TurnEvent
 ev2 = record (quiet 1 1 0) { fault = Some Object.Client; outer = Outer.Desk true; next = NextMark.Done }
 
 abbrev events : List Event
-events = Event.Publish k1 ∷ Event.See 1 1 ∷ Event.Open 1 1 client_at local_at 0 ∷ Event.Turn ev1 ∷ Event.Turn ev2 ∷ []
+events = Event.Publish all_pass ∷ Event.See 1 1 ∷ Event.Open 1 1 client_at local_at 0 ∷ Event.Turn ev1 ∷ Event.Turn ev2 ∷ []
 
 by-tests : follows first_surroundings (Some (begins script)) script (events ++ Event.See 1 1 ∷ []) ≡ true
 by-tests = refl
@@ -57,7 +57,7 @@ allowed =
         number = refl;
         generation = 1;
         saw = refl;
-        config = k1;
+        config = all_pass;
         published = refl;
         outside = _;
         there = refl;
@@ -94,7 +94,7 @@ allowed =
         number = refl;
         generation = 1;
         saw = refl;
-        config = k1;
+        config = all_pass;
         published = refl;
         outside = _;
         there = refl;

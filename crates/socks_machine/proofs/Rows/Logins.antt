@@ -1,4 +1,4 @@
--- Logins by name and password.
+-- Username and password: what is answered, and how a wrong one ends.
 use Rattle.std.specs.Prelude.{◌≡◌, refl, true, None, List, [], ◌∷◌, ◌++◌, codes}
 use Rattle.sha2.specs.Sha256.{sha256, first_words, schedule, rounds, compress, hash_after, digest_bytes}
 use Rattle.conf_model.specs.declared.protocol.Method.{Method}
@@ -7,17 +7,17 @@ use Rattle.socks_machine.specs.declared.world.Object.{Object}
 use Rattle.socks_machine.specs.declared.world.Outer.{Outer}
 use Rattle.socks_machine.specs.declared.world.NextMark.{NextMark}
 use Rattle.socks_machine.specs.declared.world.Event.{Event}
-use Rattle.socks_machine.proofs.Rows.Given.{config, client_rule, socks_rule, any, quiet, told, client_at, local_at, abc_user}
+use Rattle.socks_machine.proofs.Rows.Shared.{config, client_rule, socks_rule, any, quiet, told, client_at, local_at, abc_user}
 
-abbrev pub k_login : Config
-k_login = config (Method.Username ∷ Method.NoAuth ∷ []) (client_rule true any any ∷ []) (socks_rule true any any None ∷ []) []
+abbrev pub login_or_none : Config
+login_or_none = config (Method.Username ∷ Method.NoAuth ∷ []) (client_rule true any any ∷ []) (socks_rule true any any None ∷ []) []
 
-abbrev pub k_only : Config
-k_only = config (Method.Username ∷ []) (client_rule true any any ∷ []) (socks_rule true any any None ∷ []) []
+abbrev pub login_only : Config
+login_only = config (Method.Username ∷ []) (client_rule true any any ∷ []) (socks_rule true any any None ∷ []) []
 
 abbrev pub login_passed : List Event
 login_passed =
-    Event.Publish (k_login)
+    Event.Publish (login_or_none)
     ∷ Event.See 1 1
     ∷ Event.Open 1 1 client_at local_at 0
     ∷ Event.Turn (record (quiet 1 1 0) { outer = Outer.Desk true; next = NextMark.Again })
@@ -31,7 +31,7 @@ login_passed_text = refl
 
 abbrev pub login_failed : List Event
 login_failed =
-    Event.Publish (k_login)
+    Event.Publish (login_or_none)
     ∷ Event.See 1 1
     ∷ Event.Open 1 1 client_at local_at 0
     ∷ Event.Turn (record (quiet 1 1 0) { outer = Outer.Desk true; next = NextMark.Again })
@@ -45,7 +45,7 @@ login_failed_text = refl
 
 abbrev pub login_bad : List Event
 login_bad =
-    Event.Publish (k_login)
+    Event.Publish (login_or_none)
     ∷ Event.See 1 1
     ∷ Event.Open 1 1 client_at local_at 0
     ∷ Event.Turn (record (quiet 1 1 0) { outer = Outer.Desk true; next = NextMark.Again })
@@ -58,7 +58,7 @@ login_bad_text = refl
 
 abbrev pub login_missing4 : List Event
 login_missing4 =
-    Event.Publish (k_only)
+    Event.Publish (login_only)
     ∷ Event.See 1 1
     ∷ Event.Open 1 1 client_at local_at 0
     ∷ Event.Turn (record (quiet 1 1 0) { outer = Outer.Desk true; next = NextMark.Again })

@@ -1,4 +1,4 @@
--- Texts of addresses, and the grammars, on worked examples.
+-- Texts of addresses, grammars of requests and verdicts of rules.
 use Rattle.std.specs.Prelude.{ℕ, ◌≡◌, refl, true, false, Some, None, [], ◌∷◌, ◌++◌, codes}
 use Rattle.addr_pattern.specs.declared.addr.Addr.{Addr}
 use Rattle.addr_pattern.specs.declared.host.Host.{Host}
@@ -18,7 +18,7 @@ use Rattle.rule_list.specs.declared.facts.Facts.{Facts}
 use Rattle.rule_list.specs.declared.verdict.Verdict.{Verdict}
 use Rattle.conf_model.specs.Dialogue.{Wish, Outcome, said, outcome}
 use Rattle.rule_list.specs.Rules.{judge}
-use Rattle.socks_machine.proofs.Rows.Given.{config, client_rule, socks_rule, any, net, at4, p1, q1}
+use Rattle.socks_machine.proofs.Rows.Shared.{config, client_rule, socks_rule, any, net, at4, greeting, request}
 use Rattle.addr_pattern.specs.Matches.{host_matches}
 
 pub quad : addr_of (codes "198.51.100.10") ≡ Some (Addr.V4 0xC633640A)
@@ -130,10 +130,10 @@ wish5 = record { version = Version.V5; host = Host.Addr (Addr.V4 0xC633640A); po
 abbrev pub wish4 : Wish
 wish4 = record { version = Version.V4; host = Host.Name (codes "a.test"); port = 80; login = None }
 
-pub says_first : said wish5 [] ≡ p1
+pub says_first : said wish5 [] ≡ greeting
 says_first = refl
 
-pub says_then : said wish5 (5 ∷ 0 ∷ []) ≡ p1 ++ q1
+pub says_then : said wish5 (5 ∷ 0 ∷ []) ≡ greeting ++ request
 says_then = refl
 
 pub says_name : said wish4 [] ≡ 0x04 ∷ 0x01 ∷ 0x00 ∷ 0x50 ∷ 0 ∷ 0 ∷ 0 ∷ 1 ∷ 0 ∷ codes "a.test" ++ 0 ∷ []

@@ -1,5 +1,5 @@
--- What the worked examples share.
-use Rattle.std.specs.Prelude.{ℕ, zero, suc, Bool, true, false, Option, Some, None, List, [], ◌∷◌, codes, option_map}
+-- What the worked rows share: configurations, endpoints, the first bytes of a client, and what a run is shown as.
+use Rattle.std.specs.Prelude.{ℕ, zero, suc, Bool, true, false, Option, Some, None, List, [], ◌∷◌, codes, option_map, flat_map}
 use Rattle.addr_pattern.specs.declared.addr.Addr.{Addr}
 use Rattle.addr_pattern.specs.declared.endpoint.Endpoint.{Endpoint}
 use Rattle.addr_pattern.specs.declared.pattern.HostPattern.{HostPattern}
@@ -22,6 +22,8 @@ use Rattle.socks_machine.specs.Taking.{◌>>=◌}
 use Rattle.socks_machine.specs.Transcript.{traced, with_ends}
 use Rattle.conf_model.specs.declared.route.Via.{Via}
 use Rattle.conf_model.specs.declared.protocol.Version.{Version}
+use Rattle.socks_machine.specs.Socks.{socks}
+use Rattle.socks_machine.specs.declared.record.Decision.{Decision}
 
 abbrev pub any : Pattern
 any = record { host = HostPattern.Any; port = PortTest.Any }
@@ -70,8 +72,8 @@ config methods client socks routes = record {
 }
 
 -- any client may ask for anything
-abbrev pub k1 : Config
-k1 = config (Method.NoAuth ∷ []) (client_rule true any any ∷ []) (socks_rule true any any None ∷ []) []
+abbrev pub all_pass : Config
+all_pass = config (Method.NoAuth ∷ []) (client_rule true any any ∷ []) (socks_rule true any any None ∷ []) []
 
 abbrev pub client_at : Endpoint
 client_at = at4 0x0A000005 5000
@@ -137,11 +139,12 @@ told users workers skip es = from_there (past skip (Some (start users 256 worker
 abbrev pub logged : List User → ℕ → List Event → Option (List ℕ)
 logged users workers es = option_map (λ w. log_text w.h) (run users 256 workers es)
 
-abbrev pub p1 : List ℕ
-p1 = 5 ∷ 1 ∷ 0 ∷ []
+-- a greeting that offers no login, and a request to connect to 198.51.100.10:80 (RFC 1928, sections 3 and 4)
+abbrev pub greeting : List ℕ
+greeting = 5 ∷ 1 ∷ 0 ∷ []
 
-abbrev pub q1 : List ℕ
-q1 = 5 ∷ 1 ∷ 0 ∷ 1 ∷ 0xC6 ∷ 0x33 ∷ 0x64 ∷ 0x0A ∷ 0 ∷ 0x50 ∷ []
+abbrev pub request : List ℕ
+request = 5 ∷ 1 ∷ 0 ∷ 1 ∷ 0xC6 ∷ 0x33 ∷ 0x64 ∷ 0x0A ∷ 0 ∷ 0x50 ∷ []
 
 -- the text of all but the first events, without the ends
 abbrev pub turns_there : Option World × List Event → List ℕ
@@ -149,3 +152,36 @@ turns_there x = (traced x.0 x.1).0
 
 abbrev pub turns_told : List User → ℕ → ℕ → List Event → List ℕ
 turns_told users workers skip es = turns_there (past skip (Some (start users 256 workers)) es)
+
+abbrev pub to_one_net : Config
+to_one_net = config (Method.NoAuth ∷ []) (client_rule true any any ∷ []) (socks_rule true any (net 0xC0000200 24) None ∷ []) []
+
+abbrev pub through_proxy4 : Config
+through_proxy4 = config (Method.NoAuth ∷ []) (client_rule true any any ∷ []) (socks_rule true any any None ∷ []) (route proxy4 ∷ [])
+
+abbrev pub through_proxy5 : Config
+through_proxy5 = config (Method.NoAuth ∷ []) (client_rule true any any ∷ []) (socks_rule true any any None ∷ []) (route proxy5 ∷ [])
+
+abbrev pub one_by_socks_rule : Config
+one_by_socks_rule = config (Method.NoAuth ∷ []) (client_rule true any any ∷ []) (socks_rule true any any (Some 1) ∷ []) []
+
+abbrev pub none_passes : Config
+none_passes = config (Method.NoAuth ∷ []) (client_rule true any any ∷ []) (socks_rule false any any None ∷ []) []
+
+abbrev pub blocks_clients : Config
+blocks_clients = config (Method.NoAuth ∷ []) (client_rule false any any ∷ []) (socks_rule true any any None ∷ []) []
+
+-- where the dials, doors and ports of a run go or stand
+abbrev pub gone_to_of : Decision → List Endpoint
+gone_to_of (Decision.Reached to at) = to ∷ []
+gone_to_of _ = []
+
+abbrev pub gone_to : List Event → Option (List Endpoint)
+gone_to es = option_map (λ w. flat_map (λ r. flat_map gone_to_of r.decisions) w.records) (run [] 256 1 es)
+
+abbrev pub one_by_client_rule : Config
+one_by_client_rule = config (Method.NoAuth ∷ []) ((record (client_rule true any any) { max = Some 1 }) ∷ []) (socks_rule true any any None ∷ []) []
+
+-- an association that its desk has let in
+abbrev pub opened : List Event
+opened = Event.Publish all_pass ∷ Event.See 1 1 ∷ Event.Open 1 1 client_at local_at 0 ∷ Event.Turn (record (quiet 1 1 0) { outer = Outer.Desk true; next = NextMark.Again }) ∷ []

@@ -1,40 +1,20 @@
--- What the review tried of the desk.
-use Rattle.std.specs.Prelude.{ℕ, ◌+◌, ◌≡◌, refl, Bool, true, false, Option, Some, None, List, [], ◌∷◌, ◌++◌, codes, replicate, length, map, option_map}
-use Rattle.sha2.specs.Sha256.{sha256, first_words, schedule, rounds, compress, hash_after, digest_bytes}
-use Rattle.addr_pattern.specs.declared.addr.Addr.{Addr}
+-- What the desk answers where several causes meet: a block, no place, a limit of 0, a failed log, a stop.
+use Rattle.std.specs.Prelude.{◌≡◌, refl, true, false, Some, List, [], ◌∷◌, ◌++◌, codes, option_map}
 use Rattle.conf_model.specs.declared.protocol.Method.{Method}
-use Rattle.conf_model.specs.declared.route.Via.{Via}
-use Rattle.conf_model.specs.declared.protocol.Version.{Version}
 use Rattle.conf_model.specs.declared.config.Config.{Config}
-use Rattle.conf_model.specs.declared.user.User.{User}
-use Rattle.socks_machine.specs.declared.cause.Cause.{Cause}
 use Rattle.socks_machine.specs.declared.cause.StopBy.{StopBy}
-use Rattle.socks_machine.specs.declared.record.Gram.{Gram}
-use Rattle.socks_machine.specs.declared.world.Object.{Object}
 use Rattle.socks_machine.specs.declared.world.Outer.{Outer}
 use Rattle.socks_machine.specs.declared.world.NextMark.{NextMark}
-use Rattle.socks_machine.specs.declared.world.TurnEvent.{TurnEvent}
 use Rattle.socks_machine.specs.declared.world.Event.{Event}
-use Rattle.socks_machine.specs.declared.world.World.{World}
-use Rattle.std.specs.Prelude.{is_some}
-use Rattle.socks_machine.specs.declared.lines.CloseLine.{CloseLine}
-use Rattle.socks_machine.specs.declared.lines.OpenLine.{OpenLine}
-use Rattle.socks_machine.specs.declared.lines.Line.{Line}
-use Rattle.socks_machine.specs.declared.lines.Said.{Said}
-use Rattle.socks_machine.specs.declared.lines.Shut.{Shut}
-use Rattle.socks_machine.specs.History.{at_open, at_close, held, live_count}
-use Rattle.socks_machine.specs.Step.{run, start}
+use Rattle.socks_machine.specs.Step.{run}
 use Rattle.socks_machine.specs.Transcript.{ends}
 use Rattle.socks_machine.specs.LogText.{log_text}
-use Rattle.socks_machine.proofs.Rows.Given.{k1, config, client_rule, socks_rule, route, proxy4, proxy5, any, net, quiet, told, turns_told, logged, at4, at6, client_at, local_at, abc_user}
-
-abbrev pub kb : Config
-kb = config (Method.NoAuth ∷ []) (client_rule false any any ∷ []) (socks_rule true any any None ∷ []) []
+use Rattle.socks_machine.proofs.Rows.Shared.{all_pass, config, client_rule, socks_rule, any, quiet, client_at, local_at, blocks_clients}
 
 -- a passing open at live = cap
 abbrev pub crowded : List Event
 crowded =
-    Event.Publish (k1)
+    Event.Publish (all_pass)
     ∷ Event.See 1 1
     ∷ Event.Open 1 1 client_at local_at 0
     ∷ Event.Open 1 2 client_at local_at 0
@@ -51,7 +31,7 @@ crowded_ends = refl
 -- no line is due at Crowded: `logged` says nothing
 abbrev pub crowded_unlogged : List Event
 crowded_unlogged =
-    Event.Publish (k1)
+    Event.Publish (all_pass)
     ∷ Event.See 1 1
     ∷ Event.Open 1 1 client_at local_at 0
     ∷ Event.Open 1 2 client_at local_at 0
@@ -68,9 +48,9 @@ crowded_unlogged_ends = refl
 -- a blocked open at live = cap
 abbrev pub blocked_crowded : List Event
 blocked_crowded =
-    Event.Publish (k1)
+    Event.Publish (all_pass)
     ∷ Event.See 1 1
-    ∷ Event.Publish (kb)
+    ∷ Event.Publish (blocks_clients)
     ∷ Event.See 2 2
     ∷ Event.Open 1 1 client_at local_at 0
     ∷ Event.Open 2 2 client_at local_at 0
@@ -87,7 +67,7 @@ blocked_crowded_ends = refl
 -- LogFault is the cause also where the verdict blocks
 abbrev pub blocked_logfault : List Event
 blocked_logfault =
-    Event.Publish (kb)
+    Event.Publish (blocks_clients)
     ∷ Event.See 1 1
     ∷ Event.Open 1 1 client_at local_at 0
     ∷ Event.Turn (record (quiet 1 1 0) { outer = Outer.Desk false; next = NextMark.Done })
@@ -102,7 +82,7 @@ blocked_logfault_ends = refl
 -- Stopped by the desk is the cause also where the verdict blocks
 abbrev pub blocked_stopped : List Event
 blocked_stopped =
-    Event.Publish (kb)
+    Event.Publish (blocks_clients)
     ∷ Event.See 1 1
     ∷ Event.Open 1 1 client_at local_at 0
     ∷ Event.Stop StopBy.Control
@@ -118,7 +98,7 @@ blocked_stopped_ends = refl
 -- an open whose line failed
 abbrev pub open_logfault_live : List Event
 open_logfault_live =
-    Event.Publish (k1)
+    Event.Publish (all_pass)
     ∷ Event.See 1 1
     ∷ Event.Open 1 1 client_at local_at 0
     ∷ Event.Turn (record (quiet 1 1 0) { outer = Outer.Desk false; next = NextMark.Done })
@@ -130,16 +110,16 @@ open_logfault_live_log = refl
 pub open_logfault_live_ends : option_map ends (run [] 256 1 open_logfault_live) ≡ Some ((codes "client 1 -" ++ 10 ∷ []) ++ (codes "target 1 -" ++ 10 ∷ []) ++ (codes "end 1 logfault" ++ 10 ∷ []))
 open_logfault_live_ends = refl
 
-abbrev pub k2 : Config
-k2 = config (Method.NoAuth ∷ []) ((record (client_rule true any any) { max = Some 1 }) ∷ []) (socks_rule true any any (Some 0) ∷ []) []
+abbrev pub none_by_socks_rule : Config
+none_by_socks_rule = config (Method.NoAuth ∷ []) ((record (client_rule true any any) { max = Some 1 }) ∷ []) (socks_rule true any any (Some 0) ∷ []) []
 
-abbrev pub k3 : Config
-k3 = config (Method.NoAuth ∷ []) ((record (client_rule true any any) { max = Some 0 }) ∷ []) (socks_rule true any any (Some 0) ∷ []) []
+abbrev pub none_by_either_rule : Config
+none_by_either_rule = config (Method.NoAuth ∷ []) ((record (client_rule true any any) { max = Some 0 }) ∷ []) (socks_rule true any any (Some 0) ∷ []) []
 
 -- a limit of 0 of the socks rule
 abbrev pub full_socks : List Event
 full_socks =
-    Event.Publish (k2)
+    Event.Publish (none_by_socks_rule)
     ∷ Event.See 1 1
     ∷ Event.Open 1 1 client_at local_at 0
     ∷ Event.Turn (record (quiet 1 1 0) { outer = Outer.Desk true; next = NextMark.Again })
@@ -156,7 +136,7 @@ full_socks_ends = refl
 -- both limits: the client rule first
 abbrev pub full_client : List Event
 full_client =
-    Event.Publish (k3)
+    Event.Publish (none_by_either_rule)
     ∷ Event.See 1 1
     ∷ Event.Open 1 1 client_at local_at 0
     ∷ Event.Turn (record (quiet 1 1 0) { outer = Outer.Desk true; next = NextMark.Again })
@@ -173,7 +153,7 @@ full_client_ends = refl
 -- a full grant whose line failed
 abbrev pub full_logfault : List Event
 full_logfault =
-    Event.Publish (k3)
+    Event.Publish (none_by_either_rule)
     ∷ Event.See 1 1
     ∷ Event.Open 1 1 client_at local_at 0
     ∷ Event.Turn (record (quiet 1 1 0) { outer = Outer.Desk true; next = NextMark.Again })
@@ -190,7 +170,7 @@ full_logfault_ends = refl
 -- a close whose line failed
 abbrev pub close_logfault : List Event
 close_logfault =
-    Event.Publish (k1)
+    Event.Publish (all_pass)
     ∷ Event.See 1 1
     ∷ Event.Open 1 1 client_at local_at 0
     ∷ Event.Turn (record (quiet 1 1 0) { outer = Outer.Desk true; next = NextMark.Again })
@@ -206,7 +186,7 @@ close_logfault_ends = refl
 -- the mark Log behind Control
 abbrev pub log_behind_control : List Event
 log_behind_control =
-    Event.Publish (k1)
+    Event.Publish (all_pass)
     ∷ Event.See 1 1
     ∷ Event.Open 1 1 client_at local_at 0
     ∷ Event.Turn (record (quiet 1 1 0) { outer = Outer.Desk true; next = NextMark.Again })
@@ -226,7 +206,7 @@ log_behind_control_ends = refl
 -- a turn that was given the older mark
 abbrev pub older_mark : List Event
 older_mark =
-    Event.Publish (k1)
+    Event.Publish (all_pass)
     ∷ Event.See 1 1
     ∷ Event.Open 1 1 client_at local_at 0
     ∷ Event.Turn (record (quiet 1 1 0) { outer = Outer.Desk true; next = NextMark.Again })

@@ -1,25 +1,151 @@
--- What the review tried of the atomic steps.
-use Rattle.std.specs.Prelude.{ℕ, ◌+◌, ◌≡◌, refl, Bool, true, false, Option, Some, None, List, [], ◌∷◌, ◌++◌, codes, replicate, length, map, option_map}
-use Rattle.sha2.specs.Sha256.{sha256, first_words, schedule, rounds, compress, hash_after, digest_bytes}
-use Rattle.addr_pattern.specs.declared.addr.Addr.{Addr}
-use Rattle.conf_model.specs.declared.protocol.Method.{Method}
-use Rattle.conf_model.specs.declared.route.Via.{Via}
-use Rattle.conf_model.specs.declared.protocol.Version.{Version}
-use Rattle.conf_model.specs.declared.config.Config.{Config}
-use Rattle.conf_model.specs.declared.user.User.{User}
-use Rattle.socks_machine.specs.declared.cause.Cause.{Cause}
-use Rattle.socks_machine.specs.declared.cause.StopBy.{StopBy}
-use Rattle.socks_machine.specs.declared.record.Gram.{Gram}
+-- Atomic steps: the order of turns that they come to, and the place of the first that is not allowed.
+use Rattle.std.specs.Prelude.{ℕ, ◌≡◌, refl, true, false, None, List, [], ◌∷◌, ◌++◌, codes, Some}
 use Rattle.socks_machine.specs.declared.world.Object.{Object}
-use Rattle.socks_machine.specs.declared.world.Outer.{Outer}
-use Rattle.socks_machine.specs.declared.world.NextMark.{NextMark}
-use Rattle.socks_machine.specs.declared.world.TurnEvent.{TurnEvent}
-use Rattle.socks_machine.specs.declared.world.Event.{Event}
-use Rattle.socks_machine.specs.declared.world.World.{World}
 use Rattle.socks_machine.specs.declared.fine.Act.{Act}
 use Rattle.socks_machine.specs.declared.fine.FineStep.{FineStep}
 use Rattle.socks_machine.specs.Fine.{Coarse, coarse}
-use Rattle.socks_machine.proofs.Rows.Given.{k1, config, client_rule, socks_rule, route, proxy4, proxy5, any, net, quiet, told, turns_told, logged, at4, at6, client_at, local_at, abc_user}
+use Rattle.socks_machine.proofs.Rows.Shared.{all_pass, told, client_at, local_at, at4, greeting, request, none_passes}
+use Rattle.addr_pattern.specs.declared.addr.Addr.{Addr}
+use Rattle.socks_machine.specs.declared.cause.StopBy.{StopBy}
+
+abbrev pub text_of : Coarse → List ℕ
+text_of (Coarse.Unlawful n) = []
+text_of (Coarse.Events es) = told [] 2 0 es
+
+abbrev pub two : List FineStep
+two =
+    FineStep.Start [] 256 2 2
+    ∷ FineStep.Publish all_pass
+    ∷ FineStep.Place 0 client_at local_at 0
+    ∷ FineStep.Claim 1 0
+    ∷ FineStep.See 1 1 0 None
+    ∷ FineStep.Desk 1 true
+    ∷ FineStep.Park 1
+    ∷ FineStep.Wake 0
+    ∷ FineStep.Claim 1 0
+    ∷ FineStep.See 1 1 0 None
+    ∷ FineStep.Link 1 (Act.Read Object.Client (0x05 ∷ 0x01 ∷ 0x00 ∷ []))
+    ∷ FineStep.Publish none_passes
+    ∷ FineStep.Place 1 client_at local_at 0
+    ∷ FineStep.Claim 2 1
+    ∷ FineStep.See 2 2 0 None
+    ∷ FineStep.Desk 2 true
+    ∷ FineStep.Park 2
+    ∷ FineStep.Wake 1
+    ∷ FineStep.Claim 2 1
+    ∷ FineStep.See 2 2 0 None
+    ∷ FineStep.Link 2 (Act.Read Object.Client (0x05 ∷ 0x01 ∷ 0x00 ∷ 0x05 ∷ 0x01 ∷ 0x00 ∷ 0x01 ∷ 0xC6 ∷ 0x33 ∷ 0x64 ∷ 0x0A ∷ 0x00 ∷ 0x50 ∷ []))
+    ∷ FineStep.Link 1 (Act.Read Object.Client (0x05 ∷ 0x01 ∷ 0x00 ∷ 0x01 ∷ 0xC6 ∷ 0x33 ∷ 0x64 ∷ 0x0A ∷ 0x00 ∷ 0x50 ∷ []))
+    ∷ FineStep.Wake 0
+    ∷ FineStep.Desk 1 true
+    ∷ FineStep.Desk 2 true
+    ∷ FineStep.Link 1 (Act.Wrote Object.Client 2)
+    ∷ FineStep.Link 2 (Act.Wrote Object.Client 12)
+    ∷ FineStep.Park 1
+    ∷ FineStep.Park 2
+    ∷ FineStep.Wake 1
+    ∷ FineStep.Claim 2 1
+    ∷ FineStep.See 2 2 0 None
+    ∷ FineStep.Desk 2 true
+    ∷ FineStep.Clear 1
+    ∷ FineStep.Free 2
+    ∷ FineStep.See 1 2 0 None
+    ∷ []
+
+pub two_text : text_of (coarse two) ≡ (codes "publish 1" ++ 10 ∷ []) ++ (codes "open 0 1" ++ 10 ∷ []) ++ (codes "see 1 1" ++ 10 ∷ []) ++ (codes "turn 1 1 gen 1 took 0 0 sent 0 0 again" ++ 10 ∷ []) ++ (codes "see 1 1" ++ 10 ∷ []) ++ (codes "publish 2" ++ 10 ∷ []) ++ (codes "open 0 2" ++ 10 ∷ []) ++ (codes "see 2 2" ++ 10 ∷ []) ++ (codes "turn 2 2 gen 2 took 0 0 sent 0 0 again" ++ 10 ∷ []) ++ (codes "see 2 2" ++ 10 ∷ []) ++ (codes "turn 1 1 gen 1 took 13 0 sent 2 0 again" ++ 10 ∷ []) ++ (codes "turn 2 2 gen 2 took 13 0 sent 12 0 again" ++ 10 ∷ []) ++ (codes "see 2 2" ++ 10 ∷ []) ++ (codes "turn 2 2 gen 2 took 0 0 sent 0 0 done denied gen 2 client 1 socks 1" ++ 10 ∷ []) ++ (codes "see 1 2" ++ 10 ∷ []) ++ (codes "client 1 0500" ++ 10 ∷ []) ++ (codes "target 1 -" ++ 10 ∷ []) ++ (codes "end 1 open" ++ 10 ∷ []) ++ (codes "client 2 050005020001000000000000" ++ 10 ∷ []) ++ (codes "target 2 -" ++ 10 ∷ []) ++ (codes "end 2 denied gen 2 client 1 socks 1" ++ 10 ∷ [])
+two_text = refl
+
+abbrev pub later_publish : List FineStep
+later_publish =
+    FineStep.Start [] 256 2 1
+    ∷ FineStep.Publish all_pass
+    ∷ FineStep.Place 0 client_at local_at 0
+    ∷ FineStep.Claim 1 0
+    ∷ FineStep.See 1 1 0 None
+    ∷ FineStep.Desk 1 true
+    ∷ FineStep.Publish all_pass
+    ∷ FineStep.Park 1
+    ∷ []
+
+pub later_publish_text : text_of (coarse later_publish) ≡ (codes "publish 1" ++ 10 ∷ []) ++ (codes "open 0 1" ++ 10 ∷ []) ++ (codes "see 1 1" ++ 10 ∷ []) ++ (codes "turn 1 1 gen 1 took 0 0 sent 0 0 again" ++ 10 ∷ []) ++ (codes "publish 2" ++ 10 ∷ []) ++ (codes "client 1 -" ++ 10 ∷ []) ++ (codes "target 1 -" ++ 10 ∷ []) ++ (codes "end 1 open" ++ 10 ∷ [])
+later_publish_text = refl
+
+abbrev pub claimed_twice : List FineStep
+claimed_twice =
+    FineStep.Start [] 256 2 1
+    ∷ FineStep.Publish all_pass
+    ∷ FineStep.Place 0 client_at local_at 0
+    ∷ FineStep.Claim 1 0
+    ∷ FineStep.Claim 2 0
+    ∷ []
+
+pub claimed_twice_is : coarse claimed_twice ≡ Coarse.Unlawful 4
+claimed_twice_is = refl
+
+abbrev pub woken : List FineStep
+woken =
+    FineStep.Start [] 256 2 1
+    ∷ FineStep.Publish all_pass
+    ∷ FineStep.Place 0 client_at local_at 0
+    ∷ FineStep.Claim 1 0
+    ∷ FineStep.See 1 1 0 None
+    ∷ FineStep.Desk 1 true
+    ∷ FineStep.Wake 0
+    ∷ FineStep.Park 1
+    ∷ FineStep.Clear 1
+    ∷ FineStep.See 1 1 0 None
+    ∷ FineStep.Link 1 (Act.Idle Object.Client false)
+    ∷ FineStep.Park 1
+    ∷ []
+
+pub woken_text : text_of (coarse woken) ≡ (codes "publish 1" ++ 10 ∷ []) ++ (codes "open 0 1" ++ 10 ∷ []) ++ (codes "see 1 1" ++ 10 ∷ []) ++ (codes "turn 1 1 gen 1 took 0 0 sent 0 0 again" ++ 10 ∷ []) ++ (codes "see 1 1" ++ 10 ∷ []) ++ (codes "turn 1 1 gen 1 took 0 0 sent 0 0 wait" ++ 10 ∷ []) ++ (codes "client 1 -" ++ 10 ∷ []) ++ (codes "target 1 -" ++ 10 ∷ []) ++ (codes "end 1 open" ++ 10 ∷ [])
+woken_text = refl
+
+abbrev pub in_hand : List FineStep
+in_hand =
+    FineStep.Start [] 256 2 1
+    ∷ FineStep.Publish all_pass
+    ∷ FineStep.Place 0 client_at local_at 0
+    ∷ FineStep.Claim 1 0
+    ∷ FineStep.See 1 1 0 None
+    ∷ FineStep.Desk 1 true
+    ∷ []
+
+pub in_hand_text : text_of (coarse in_hand) ≡ (codes "publish 1" ++ 10 ∷ []) ++ (codes "open 0 1" ++ 10 ∷ []) ++ (codes "see 1 1" ++ 10 ∷ []) ++ (codes "turn 1 1 gen 1 took 0 0 sent 0 0 going" ++ 10 ∷ []) ++ (codes "client 1 -" ++ 10 ∷ []) ++ (codes "target 1 -" ++ 10 ∷ []) ++ (codes "end 1 open" ++ 10 ∷ [])
+in_hand_text = refl
+
+abbrev pub not_standing_yet : List FineStep
+not_standing_yet =
+    FineStep.Start [] 256 2 1
+    ∷ FineStep.Publish all_pass
+    ∷ FineStep.Place 0 client_at local_at 0
+    ∷ FineStep.Claim 1 0
+    ∷ FineStep.See 1 1 0 None
+    ∷ []
+
+pub not_standing_yet_text : text_of (coarse not_standing_yet) ≡ (codes "publish 1" ++ 10 ∷ []) ++ (codes "open 0 1" ++ 10 ∷ []) ++ (codes "see 1 1" ++ 10 ∷ []) ++ (codes "client 1 -" ++ 10 ∷ []) ++ (codes "target 1 -" ++ 10 ∷ []) ++ (codes "end 1 open" ++ 10 ∷ [])
+not_standing_yet_text = refl
+
+abbrev pub behind_close : List FineStep
+behind_close =
+    FineStep.Start [] 256 2 1
+    ∷ FineStep.Publish all_pass
+    ∷ FineStep.Place 0 client_at local_at 0
+    ∷ FineStep.Claim 1 0
+    ∷ FineStep.See 1 1 0 None
+    ∷ FineStep.Desk 1 true
+    ∷ FineStep.Park 1
+    ∷ FineStep.Wake 0
+    ∷ FineStep.Claim 1 0
+    ∷ FineStep.See 1 1 0 None
+    ∷ FineStep.Link 1 (Act.Read Object.Client (0x05 ∷ 0x00 ∷ []))
+    ∷ FineStep.Link 1 (Act.Wrote Object.Client 2)
+    ∷ FineStep.Desk 1 true
+    ∷ FineStep.Link 1 (Act.Idle Object.Client false)
+    ∷ []
+
+pub behind_close_is : coarse behind_close ≡ Coarse.Unlawful 13
+behind_close_is = refl
 
 -- the place of the first step that isn't allowed, or 0
 abbrev pub place_of : Coarse → ℕ
@@ -30,7 +156,7 @@ place_of (Coarse.Events es) = 0
 abbrev pub idle_behind_stopped_close : List FineStep
 idle_behind_stopped_close =
     FineStep.Start [] 256 1 1
-    ∷ FineStep.Publish k1
+    ∷ FineStep.Publish all_pass
     ∷ FineStep.Place 0 client_at local_at 0
     ∷ FineStep.Claim 1 0
     ∷ FineStep.See 1 1 0 None
@@ -51,7 +177,7 @@ idle_behind_stopped_close_is = refl
 abbrev pub idle_behind_stopped_close_judging : List FineStep
 idle_behind_stopped_close_judging =
     FineStep.Start [] 256 1 1
-    ∷ FineStep.Publish k1
+    ∷ FineStep.Publish all_pass
     ∷ FineStep.Place 0 client_at local_at 0
     ∷ FineStep.Claim 1 0
     ∷ FineStep.See 1 1 0 None
@@ -79,7 +205,7 @@ idle_behind_stopped_close_judging_is = refl
 abbrev pub fault_then_desk : List FineStep
 fault_then_desk =
     FineStep.Start [] 256 1 1
-    ∷ FineStep.Publish k1
+    ∷ FineStep.Publish all_pass
     ∷ FineStep.Place 0 client_at local_at 0
     ∷ FineStep.Claim 1 0
     ∷ FineStep.See 1 1 0 None
@@ -100,7 +226,7 @@ fault_then_desk_is = refl
 abbrev pub fault_then_desk_idle : List FineStep
 fault_then_desk_idle =
     FineStep.Start [] 256 1 1
-    ∷ FineStep.Publish k1
+    ∷ FineStep.Publish all_pass
     ∷ FineStep.Place 0 client_at local_at 0
     ∷ FineStep.Claim 1 0
     ∷ FineStep.See 1 1 0 None
@@ -122,7 +248,7 @@ fault_then_desk_idle_is = refl
 abbrev pub desk_then_fault_idle : List FineStep
 desk_then_fault_idle =
     FineStep.Start [] 256 1 1
-    ∷ FineStep.Publish k1
+    ∷ FineStep.Publish all_pass
     ∷ FineStep.Place 0 client_at local_at 0
     ∷ FineStep.Claim 1 0
     ∷ FineStep.See 1 1 0 None
@@ -144,7 +270,7 @@ desk_then_fault_idle_is = refl
 abbrev pub read_behind_request : List FineStep
 read_behind_request =
     FineStep.Start [] 256 1 1
-    ∷ FineStep.Publish k1
+    ∷ FineStep.Publish all_pass
     ∷ FineStep.Place 0 client_at local_at 0
     ∷ FineStep.Claim 1 0
     ∷ FineStep.See 1 1 0 None
@@ -164,7 +290,7 @@ read_behind_request_is = refl
 abbrev pub read_behind_bad : List FineStep
 read_behind_bad =
     FineStep.Start [] 256 1 1
-    ∷ FineStep.Publish k1
+    ∷ FineStep.Publish all_pass
     ∷ FineStep.Place 0 client_at local_at 0
     ∷ FineStep.Claim 1 0
     ∷ FineStep.See 1 1 0 None
@@ -184,7 +310,7 @@ read_behind_bad_is = refl
 abbrev pub read_behind_end : List FineStep
 read_behind_end =
     FineStep.Start [] 256 1 1
-    ∷ FineStep.Publish k1
+    ∷ FineStep.Publish all_pass
     ∷ FineStep.Place 0 client_at local_at 0
     ∷ FineStep.Claim 1 0
     ∷ FineStep.See 1 1 0 None
@@ -205,7 +331,7 @@ read_behind_end_is = refl
 abbrev pub quantum_then_call : List FineStep
 quantum_then_call =
     FineStep.Start [] 256 1 1
-    ∷ FineStep.Publish k1
+    ∷ FineStep.Publish all_pass
     ∷ FineStep.Place 0 client_at local_at 0
     ∷ FineStep.Claim 1 0
     ∷ FineStep.See 1 1 0 None
@@ -226,7 +352,7 @@ quantum_then_call_is = refl
 abbrev pub port_send_fails : List FineStep
 port_send_fails =
     FineStep.Start [] 256 1 1
-    ∷ FineStep.Publish k1
+    ∷ FineStep.Publish all_pass
     ∷ FineStep.Place 0 client_at local_at 0
     ∷ FineStep.Claim 1 0
     ∷ FineStep.See 1 1 0 None
@@ -260,7 +386,7 @@ port_send_fails_is = refl
 abbrev pub port_send_fails_written : List FineStep
 port_send_fails_written =
     FineStep.Start [] 256 1 1
-    ∷ FineStep.Publish k1
+    ∷ FineStep.Publish all_pass
     ∷ FineStep.Place 0 client_at local_at 0
     ∷ FineStep.Claim 1 0
     ∷ FineStep.See 1 1 0 None
@@ -289,3 +415,29 @@ port_send_fails_written =
 
 pub port_send_fails_written_is : place_of (coarse port_send_fails_written) ≡ 25
 port_send_fails_written_is = refl
+
+abbrev to_talk : List FineStep
+to_talk =
+    FineStep.Start [] 256 1 1 ∷ FineStep.Publish all_pass ∷ FineStep.Place 0 client_at local_at 0 ∷ FineStep.Claim 1 0 ∷ FineStep.See 1 1 0 None ∷ FineStep.Desk 1 true
+    ∷ FineStep.Park 1 ∷ FineStep.Wake 0 ∷ FineStep.Claim 1 0 ∷ FineStep.See 1 1 0 None ∷ []
+
+-- a program that writes the method before it reads on may not read the whole request in the same turn
+writes_then_reads : place_of (coarse (to_talk ++ FineStep.Link 1 (Act.Read Object.Client greeting) ∷ FineStep.Link 1 (Act.Wrote Object.Client 2) ∷ FineStep.Link 1 (Act.Read Object.Client request) ∷ [])) ≡ 12
+writes_then_reads = refl
+
+-- .. though it may read a part of it
+writes_then_reads_part : place_of (coarse (to_talk ++ FineStep.Link 1 (Act.Read Object.Client greeting) ∷ FineStep.Link 1 (Act.Wrote Object.Client 2) ∷ FineStep.Link 1 (Act.Read Object.Client (5 ∷ [])) ∷ [])) ≡ 0
+writes_then_reads_part = refl
+
+-- ---- what the record in hand reads
+
+-- no read behind a whole request
+reads_behind_request : place_of (coarse (to_talk ++ FineStep.Link 1 (Act.Read Object.Client (greeting ++ request)) ∷ FineStep.Link 1 (Act.Read Object.Client (0x61 ∷ [])) ∷ [])) ≡ 11
+reads_behind_request = refl
+
+-- .. nor an end
+ends_behind_request : place_of (coarse (to_talk ++ FineStep.Link 1 (Act.Read Object.Client (greeting ++ request)) ∷ FineStep.Link 1 (Act.End Object.Client) ∷ [])) ≡ 11
+ends_behind_request = refl
+
+reads_in_two : place_of (coarse (to_talk ++ FineStep.Link 1 (Act.Read Object.Client greeting) ∷ FineStep.Link 1 (Act.Read Object.Client request) ∷ [])) ≡ 0
+reads_in_two = refl
