@@ -15,7 +15,12 @@ pub fn add_publish(alloc: Global, out: &mut Text, generation: u64) -> Result<(),
 }
 
 /// Appends the line of a worker that saw a generation.
-pub fn add_see(alloc: Global, out: &mut Text, worker: u32, generation: u64) -> Result<(), AllocError>
+pub fn add_see(
+    alloc: Global,
+    out: &mut Text,
+    worker: u32,
+    generation: u64,
+) -> Result<(), AllocError>
     ensures { OnOk result (out.new ≡ out.old ++ line (codes "see" ∷ number_text worker ∷ number_text generation ∷ [])) }
 {
     add_counted_line(alloc, out, b"see", &[u64::from(worker), generation])
@@ -36,7 +41,12 @@ pub fn add_close(out: &mut Text) -> Result<(), AllocError>
 }
 
 /// Appends a line of a word and numbers.
-fn add_counted_line(alloc: Global, out: &mut Text, word: &[u8], numbers: &[u64]) -> Result<(), AllocError>
+fn add_counted_line(
+    alloc: Global,
+    out: &mut Text,
+    word: &[u8],
+    numbers: &[u64],
+) -> Result<(), AllocError>
     ensures { OnOk result (out.new ≡ out.old ++ counted_line word.now numbers.now) }
 {
     out.add(word)?;
