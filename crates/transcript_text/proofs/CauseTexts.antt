@@ -1,10 +1,10 @@
 -- The text of a cause is its name and what stands behind it.
-use Rattle.std.proofs.Common.{ℕ, Option, Some, None, List, [], ◌∷◌, ◌++◌, ◌≡◌, ◌∙◌, sym, ap, subst, refl, append-nil, codes, Result, OnOk}
+use Rattle.std.proofs.Common.{ℕ, Some, None, List, [], ◌∷◌, ◌++◌, ◌≡◌, ◌∙◌, sym, ap, subst, refl, append-nil, codes, Result, OnOk}
 use Rattle.rule_list.specs.declared.verdict.Verdict.{Verdict}
 use Rattle.socks_machine.specs.declared.cause.Cause.{Cause}
-use Rattle.addr_pattern.specs.AddressText.{endpoint_text, addr_text}
+use Rattle.addr_pattern.specs.AddressText.{endpoint_text}
 use Rattle.socks_machine.specs.LogText.{words, cause_words, cause_text}
-use Rattle.transcript_text.specs.Pieces.{digits, hex_pair, blanked, addr_word, endpoint_word}
+use Rattle.transcript_text.specs.Pieces.{digits, hex_pair, blanked, addr_word}
 use Rattle.transcript_text.specs.Causes.{cause_name, details}
 use Rattle.transcript_text.proofs.Addresses.{addr_word-text, endpoint_word-text}
 

@@ -1,14 +1,13 @@
 -- The lines of turns and of ends in pieces are those of the transcript.
-use Rattle.std.proofs.Common.{ℕ, Bool, true, false, if◌then◌else◌, Option, Some, None, List, [], ◌∷◌, ◌++◌, ◌≡◌, ◌∙◌, length, sym, ap, subst, refl, append_assoc, append-nil, arith, codes, Result, OnOk, Ok, Err, ◌&&◌, is_some, flat_map}
+use Rattle.std.proofs.Common.{ℕ, Bool, false, if◌then◌else◌, Option, Some, None, List, [], ◌∷◌, ◌++◌, ◌≡◌, ◌∙◌, length, sym, ap, subst, refl, append_assoc, append-nil, arith, codes, Result, OnOk, Ok, Err, ◌&&◌, is_some, flat_map}
 use Rattle.socks_machine.specs.declared.cause.Cause.{Cause}
 use Rattle.socks_machine.specs.declared.record.Gram.{Gram}
 use Rattle.socks_machine.specs.declared.record.Record.{Record}
 use Rattle.socks_machine.specs.declared.world.NextMark.{NextMark}
 use Rattle.socks_machine.specs.declared.world.TurnEvent.{TurnEvent}
 use Rattle.addr_pattern.specs.AddressText.{number_text}
-use Rattle.socks_machine.specs.LogText.{words}
 use Rattle.socks_machine.specs.Decisions.{reached_at}
-use Rattle.socks_machine.specs.Transcript.{line, end_of, end_text, last_cause, next_text, turn_words, turn_line, ends_of, drops_line, datagram_line, count_text, drop_words, bytes_text}
+use Rattle.socks_machine.specs.Transcript.{line, end_of, end_text, last_cause, next_text, turn_line, ends_of, drops_line, datagram_line, count_text, drop_words, bytes_text}
 use Rattle.socks_machine.specs.Basis.{Basis}
 use Rattle.socks_machine.specs.Phase.{is_udp}
 use Rattle.transcript_text.specs.Pieces.{digits, blanked}

@@ -1,10 +1,10 @@
 -- How an association stands, and the lines of turns and of ends, in pieces.
-use Rattle.std.specs.Prelude.{ℕ, Bool, if◌then◌else◌, Option, Some, None, List, [], ◌∷◌, ◌++◌, codes}
+use Rattle.std.specs.Prelude.{ℕ, if◌then◌else◌, Option, Some, None, List, [], ◌∷◌, ◌++◌, codes}
 use Rattle.socks_machine.specs.declared.cause.Cause.{Cause}
 use Rattle.socks_machine.specs.declared.record.Record.{Record}
 use Rattle.socks_machine.specs.declared.world.NextMark.{NextMark}
 use Rattle.socks_machine.specs.LogText.{cause_text}
-use Rattle.socks_machine.specs.Transcript.{last_cause, end_text, bytes_text}
+use Rattle.socks_machine.specs.Transcript.{last_cause, bytes_text}
 use Rattle.transcript_text.specs.Pieces.{digits, blanked}
 
 unfoldable pub cause_word : Cause → List ℕ

@@ -2,7 +2,7 @@
 use Rattle.std.specs.Prelude.{ℕ, ◌/◌, ◌%◌, List, [], ◌∷◌, ◌++◌}
 use Rattle.addr_pattern.specs.declared.addr.Addr.{Addr}
 use Rattle.addr_pattern.specs.declared.endpoint.Endpoint.{Endpoint}
-use Rattle.addr_pattern.specs.AddressText.{number_text, hex_byte, ipv6_text}
+use Rattle.addr_pattern.specs.AddressText.{number_text, hex_byte, groups, longest_run, text_with_run}
 
 -- the digits of a number
 unfoldable pub digits : ℕ → List ℕ
@@ -31,8 +31,15 @@ unfoldable pub ipv4_word : ℕ → List ℕ
 ipv4_word n =
     digits (n / 16777216) ++ (46 ∷ (digits (n / 65536 % 256) ++ (46 ∷ (digits (n / 256 % 256) ++ (46 ∷ digits (n % 256))))))
 
-unfoldable pub ipv6_word : ℕ → List ℕ
-ipv6_word n = ipv6_text n
+-- the eight groups of an address of IPv6, and the text of groups with their longest run left out
+unfoldable pub eight_groups : ℕ → List ℕ
+eight_groups n = groups 8 n
+
+unfoldable pub groups_text : List ℕ → List ℕ
+groups_text gs = text_with_run gs (longest_run gs)
+
+abbrev pub ipv6_word : ℕ → List ℕ
+ipv6_word n = groups_text (eight_groups n)
 
 abbrev pub addr_word : Addr → List ℕ
 addr_word (Addr.V4 n) = ipv4_word n

@@ -7,7 +7,7 @@ use conf_text::Text;
 use std::alloc::AllocError;
 
 /// The lower-case hexadecimal digit of a number below 16.
-fn hex_digit(digit: u8) -> u8
+pub(crate) fn hex_digit(digit: u8) -> u8
     requires { digit < 16 }
     ensures { result ≡ digit_text digit }
 {
