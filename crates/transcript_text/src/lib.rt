@@ -16,3 +16,6 @@ pub use event::{add_close, add_open, add_publish, add_see};
 pub use hex::add_bytes;
 pub use number::add_number;
 pub use turn::add_turn;
+
+#[cfg(test)]
+mod tests;
