@@ -1,0 +1,4 @@
+pub mod Addresses
+pub mod CauseTexts
+pub mod Endings
+pub mod Numbers

@@ -1,0 +1,6 @@
+use Rattle.std.proofs.Common.{[], ◌∷◌, codes}
+use Rattle.transcript_text.proofs.Numbers.{adds_line}
+use Rattle.transcript_text.proofs.event.add_see.Goals as goal
+
+pub returns : goal.returns
+returns c = adds_line c.add_counted_line.result c.args.out.now c.add_counted_line.new.out (codes "see") (c.args.worker ∷ c.args.generation ∷ []) (rw c.from.ensures at c.add_counted_line.ensures)
