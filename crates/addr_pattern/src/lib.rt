@@ -3,6 +3,7 @@
 
 mod addr;
 mod endpoint;
+mod fault;
 mod fold;
 mod front;
 mod host;
@@ -11,6 +12,7 @@ mod pattern;
 
 pub use addr::Addr;
 pub use endpoint::Endpoint;
+pub use fault::AddrFault;
 pub use front::{BadAt, BadKind, Front, Span};
 pub use host::Host;
 pub use name::Name;
