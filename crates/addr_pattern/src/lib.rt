@@ -17,3 +17,6 @@ pub use front::{BadAt, BadKind, Front, Span};
 pub use host::Host;
 pub use name::Name;
 pub use pattern::{HostPattern, Pattern, PortTest};
+
+#[cfg(test)]
+mod tests;
