@@ -9,6 +9,7 @@ mod front;
 mod host;
 mod name;
 mod pattern;
+mod short;
 
 pub use addr::Addr;
 pub use endpoint::Endpoint;
@@ -17,6 +18,7 @@ pub use front::{BadAt, BadKind, Front, Span};
 pub use host::Host;
 pub use name::Name;
 pub use pattern::{HostPattern, Pattern, PortTest};
+pub use short::Short;
 
 #[cfg(test)]
 mod tests;

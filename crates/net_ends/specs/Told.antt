@@ -1,5 +1,5 @@
 -- What a link tells of itself, and how an answer changes it.
-use Rattle.std.specs.Prelude.{◌≡◌, ◌<◌, ◌≤◌, ◌-◌, ℕ, Bool, true, false, Option, Some, None, List, [], ◌++◌, take, length, option_map}
+use Rattle.std.specs.Prelude.{◌≡◌, ◌<◌, ◌≤◌, ℕ, Bool, true, false, Option, Some, None, List, [], ◌++◌, take, length}
 use mathlib.Core.List.{IsPrefix}
 use Rattle.net_ends.specs.declared.link.Reading.{Reading}
 use Rattle.net_ends.specs.declared.link.Writing.{Writing}
@@ -11,7 +11,7 @@ pub record Arrival : Type 0 where
   pub ends : Bool
 
 -- What a link has given and taken, where it tells. It always says whether it has answered its end, and whether a shut of
--- it was done. A link of memory tells more: what has arrived at it, how many bytes it can still take, and that none of its
+-- it was done. A link of memory tells more: what has arrived at it, how many bytes it can take in all, and that none of its
 -- calls fails any more.
 pub record Told : Type 0 where
   pub given : Option (List ℕ)
@@ -19,7 +19,7 @@ pub record Told : Type 0 where
   pub ended : Bool
   pub shut : Bool
   pub arrived : Option Arrival
-  pub room : Option ℕ
+  pub cap : Option ℕ
   pub unfailing : Bool
 
 -- what was told, with more behind it
@@ -35,7 +35,7 @@ after_read told Reading.NotYet buffer = told
 after_read told Reading.Failed buffer = told
 
 abbrev pub after_write : Told → Writing → List ℕ → Told
-after_write told (Writing.Took n) bytes = record told { taken = more told.taken (take n bytes); room = option_map (λ room. room - n) told.room }
+after_write told (Writing.Took n) bytes = record told { taken = more told.taken (take n bytes) }
 after_write told Writing.NotYet bytes = told
 after_write told Writing.Failed bytes = told
 
@@ -53,7 +53,7 @@ MayRead told room Reading.Failed = told.unfailing ≡ false
 -- a write of that many bytes takes some of them, or none where there is no room
 abbrev pub MayWrite : Told → ℕ → Writing → Type 0
 MayWrite told len (Writing.Took n) = (0 < n) × (n ≤ len)
-MayWrite told len Writing.NotYet = (room : ℕ) → told.room ≡ Some room → room ≡ 0
+MayWrite told len Writing.NotYet = (cap : ℕ) (taken : List ℕ) → told.cap ≡ Some cap → told.taken ≡ Some taken → cap ≤ length taken
 MayWrite told len Writing.Failed = told.unfailing ≡ false
 
 abbrev pub MayShut : Told → Shutting → Type 0

@@ -49,6 +49,20 @@ impl Desk {
         }
     }
 
+    /// How many associations may be live.
+    pub fn cap(&self) -> u32
+        ensures { result ≡ self.now.cap }
+    {
+        self.cap
+    }
+
+    /// The stop mark that stands, if any.
+    pub fn mark(&self) -> Option<StopBy>
+        ensures { result ≡ self.now.stopped }
+    {
+        self.stopped
+    }
+
     fn place_of(&self, number: u64) -> Option<usize>
         ensures value { result ≡ position (has_number number) self.now.entries }
         ensures within { IfSome result (λ place. place < length self.now.entries) }

@@ -1,0 +1,249 @@
+-- What one turn of the first path comes to.
+use Rattle.std.specs.Prelude.{ℕ, ◌+◌, ◌≡◌, ◌<◌, ◌≤◌, ◌⊎◌, Bool, true, false, ◌&&◌, Option, Some, None, List, [], ◌∷◌, ◌++◌, length, is_some}
+use Rattle.addr_pattern.specs.declared.endpoint.Endpoint.{Endpoint}
+use Rattle.conf_model.specs.declared.config.Config.{Config}
+use Rattle.conf_model.specs.declared.protocol.Command.{Command}
+use Rattle.conf_model.specs.declared.user.User.{User}
+use Rattle.net_ends.specs.Counts.{Counts, Rose}
+use Rattle.net_ends.specs.Nets.{Dial, DialOutcome, NetTold, Plan, dialled}
+use Rattle.net_ends.specs.Told.{Told, Arrival}
+use Rattle.socks_machine.specs.declared.cause.StopBy.{StopBy}
+use Rattle.socks_machine.specs.declared.lines.Line.{Line}
+use Rattle.socks_machine.specs.declared.record.Record.{Record}
+use Rattle.socks_machine.specs.declared.world.NextMark.{NextMark}
+use Rattle.socks_machine.specs.declared.world.Object.{Object}
+use Rattle.socks_machine.specs.declared.world.Outer.{Outer}
+use Rattle.socks_machine.specs.declared.world.TurnEvent.{TurnEvent}
+use Rattle.socks_machine.specs.Basis.{Basis}
+use Rattle.socks_machine.specs.Calls.{Context, TurnResult}
+use Rattle.socks_machine.specs.Decisions.{reached_at}
+use Rattle.socks_machine.specs.Owed.{waiting_for_target, waiting_for_client}
+use Rattle.socks_machine.specs.Phase.{Phase, phase, is_udp}
+use Rattle.socks_machine.specs.Script.{without_ends}
+use Rattle.socks_machine.specs.Socks.{socks}
+use Rattle.socks_machine.specs.Taking.{taken, reads_client, reads_target, pipe_size}
+use Rattle.socks_machine.specs.Turn.{turn, quantum}
+use Rattle.assoc_core.specs.declared.assoc.Assoc.{Assoc}
+use Rattle.assoc_core.specs.declared.assoc.Ended.{Ended}
+use Rattle.assoc_core.specs.declared.assoc.Next.{Next}
+use Rattle.assoc_core.specs.Plain.{IsPlainRecord, owed_c, owed_t}
+use Rattle.assoc_core.specs.Stands.{Holds, EndsBehind, GivesFirst, HoldsTarget}
+
+-- ---- the event
+
+-- what a turn of the first path does
+pub record Acts : Type 0 where
+  pub c : List ℕ
+  pub t : List ℕ
+  pub end_c : Bool
+  pub end_t : Bool
+  pub outer : Outer
+  pub sent_c : ℕ
+  pub sent_t : ℕ
+  pub shut_c : Bool
+  pub shut_t : Bool
+  pub idle_c : Bool
+  pub idle_t : Bool
+  pub full_c : Bool
+  pub full_t : Bool
+  pub fault : Option Object
+  pub unwritten : Bool
+
+abbrev pub listed : Object → Bool → List Object → List Object
+listed o true os = o ∷ os
+listed o false os = os
+
+-- the client and the target, where they are meant
+abbrev pub links : Bool → Bool → List Object
+links c t = listed Object.Target t (listed Object.Client c [])
+
+abbrev pub event_of : ℕ → ℕ → ℕ → Acts → NextMark → TurnEvent
+event_of worker number now x next = record {
+  worker = worker;
+  number = number;
+  now = now;
+  stop = None;
+  c = x.c;
+  t = x.t;
+  end_c = x.end_c;
+  end_t = x.end_t;
+  grams = [];
+  came = None;
+  outer = x.outer;
+  sent_c = x.sent_c;
+  sent_t = x.sent_t;
+  sent_u = 0;
+  shut_c = x.shut_c;
+  shut_t = x.shut_t;
+  idle = links x.idle_c x.idle_t;
+  full = links x.full_c x.full_t;
+  fault = x.fault;
+  unwritten = x.unwritten;
+  memory = false;
+  next = next;
+}
+
+-- ---- the answer
+
+abbrev pub mark_of : {L : Type 0} → Next L → NextMark
+mark_of (Next.Wait a) = NextMark.Wait
+mark_of (Next.Again a) = NextMark.Again
+mark_of (Next.Done e) = NextMark.Done
+
+abbrev pub left_of : {L : Type 0} → Next L → Assoc L
+left_of (Next.Wait a) = a
+left_of (Next.Again a) = a
+left_of (Next.Done e) = record { state = e.state; client = e.client; target = e.target }
+
+-- an association that goes on stands for a record of the first path
+abbrev pub GoesOn : {L : Type 0} → Next L → Type 0
+GoesOn (Next.Wait a) = IsPlainRecord a.state
+GoesOn (Next.Again a) = IsPlainRecord a.state
+GoesOn (Next.Done e) = (e.state.done ≡ true) × (is_udp e.state ≡ false) × (e.state.sent_u ≡ [])
+
+-- ---- the outside
+
+-- what no call changes
+pub record SameOutside (old new : Told) : Type 0 where
+  pub arrived : new.arrived ≡ old.arrived
+  pub cap : new.cap ≡ old.cap
+  pub unfailing : new.unfailing ≡ old.unfailing
+
+-- the target's link is the one that was there, or the one that the dial gave
+abbrev pub SameTarget : {L : Type 0} → (L → Told) → NetTold → Option L → Option L → Type 0
+SameTarget told net None None = Unit {0}
+SameTarget told net (Some old) (Some new) = SameOutside (told old) (told new)
+SameTarget told net None (Some new) = (plan : Plan) → net.plan ≡ Some plan → SameOutside plan.link (told new)
+SameTarget told net (Some old) None = ⊥
+
+-- whether no call on the target's link can fail, where it is there or comes as planned
+abbrev pub IsUnfailing : {L : Type 0} → (L → Told) → NetTold → Option L → Type 0
+IsUnfailing told net None = (plan : Plan) × (net.plan ≡ Some plan) × (plan.link.unfailing ≡ true)
+IsUnfailing told net (Some link) = (told link).unfailing ≡ true
+
+-- the outcome of a dial as the event has it
+abbrev pub outer_of : DialOutcome → Outer
+outer_of (DialOutcome.CameUp local) = Outer.Up local
+outer_of DialOutcome.WasRefused = Outer.Refused
+outer_of DialOutcome.NoHost = Outer.HostUnreachable
+outer_of DialOutcome.NoNet = Outer.NetUnreachable
+outer_of DialOutcome.Fault = Outer.Failed
+
+-- the outer call is the desk's, or a dial that came out as the net planned it
+abbrev pub IsOuterOf : NetTold → Phase → Outer → Type 0
+IsOuterOf net p Outer.Nothing = Unit {0}
+IsOuterOf net p (Outer.Desk logged) = Unit {0}
+IsOuterOf net (Phase.Reach g) outer = (g.facts.command ≡ Command.Connect) × ((plan : Plan) → net.plan ≡ Some plan → outer ≡ outer_of plan.outcome)
+IsOuterOf net p outer = ⊥
+
+-- the dials that the net tells are those before, and the one that this turn made, of the passed destination
+abbrev pub DialsAre : Option (List Dial) → Option (List Dial) → Phase → Outer → Type 0
+DialsAre old new p Outer.Nothing = new ≡ old
+DialsAre old new p (Outer.Desk logged) = new ≡ old
+DialsAre old new (Phase.Reach g) outer = (outcome : DialOutcome) × (outer ≡ outer_of outcome) × (new ≡ dialled old (record { to = g.facts.to; outcome = outcome }))
+DialsAre old new p outer = ⊥
+
+-- the plan of the next dial stays as it was, unless a dial came up, and then the target was reached
+abbrev pub PlanStays : NetTold → NetTold → Outer → Bool → Type 0
+PlanStays net net' (Outer.Up at) there = there ≡ true
+PlanStays net net' outer there = net'.plan ≡ net.plan
+
+-- NotYet to a read: all that arrived was given, and no end stands behind it
+abbrev pub IsIdle : Told → Type 0
+IsIdle told = (arrival : Arrival) (given : List ℕ) → told.arrived ≡ Some arrival → told.given ≡ Some given → (given ≡ arrival.bytes) × (arrival.ends ≡ false)
+
+-- NotYet to a write: it has taken as much as it can
+abbrev pub IsFull : Told → Type 0
+IsFull told = (cap : ℕ) (taken : List ℕ) → told.cap ≡ Some cap → told.taken ≡ Some taken → cap ≤ length taken
+
+abbrev pub IsThereAnd : {L : Type 0} → Option L → (L → Type 0) → Type 0
+IsThereAnd None p = ⊥
+IsThereAnd (Some link) p = p link
+
+-- why nothing more was read of a side: it has ended, or answered NotYet, a quantum was taken, a call failed, or the
+-- phase behind all that was taken doesn't read it
+pub data StopsReading (was ends idle : Bool) (part : List ℕ) (fault : Option Object) (Unread : Type 0) : Type 0 where
+  ended : was ≡ true → StopsReading was ends idle part fault Unread
+  ends' : ends ≡ true → StopsReading was ends idle part fault Unread
+  rested : idle ≡ true → StopsReading was ends idle part fault Unread
+  took : quantum ≤ length part → StopsReading was ends idle part fault Unread
+  failed : is_some fault ≡ true → StopsReading was ends idle part fault Unread
+  unread : Unread → StopsReading was ends idle part fault Unread
+
+-- the phase behind all that was taken reads no more of a side
+pub record Unread (s : Context) (event : TurnEvent) (behind : Record) (reads : Record → Phase → Bool) : Type 0 where
+  pub end_c : event.end_c ≡ false
+  pub end_t : event.end_t ≡ false
+  pub unread' : reads behind (phase s.basis behind) ≡ false
+
+-- An end was read where the phase behind all that was taken, but for the ends, reads that side. In Relay, where no call
+-- failed and no link was full, fewer bytes of this side wait behind the turn than a pipe holds.
+pub record ReadsEnd (s : Context) (old left : Record) (event : TurnEvent) (was : Bool) (part : List ℕ) (reads : Record → Phase → Bool)
+    (waiting : Basis → Record → ℕ) : Type 0 where
+  pub unended : was ≡ false
+  pub below : length part < quantum
+  pub behind : Record
+  pub taken' : taken s.basis s.generation (s.config).methods (without_ends event) old ≡ Some behind
+  pub reads' : reads behind (phase s.basis behind) ≡ true
+  pub room : phase s.basis behind ≡ Phase.Relay → event.fault ≡ None → event.full ≡ [] → waiting s.basis left < pipe_size
+
+-- ---- a turn
+
+-- One turn: a lawful event whose bytes, ends and outcomes are those that the outside told, and the association that
+-- stands for the record which it leaves.
+pub record Turns {L : Type 0} (told : L → Told) (counts : L → Counts) (stands : List Line → List StopBy → Type 0) (s : Context)
+    (now : ℕ) (net net' : NetTold) (a : Assoc L) (next : Next L) : Type 0 where
+  pub acts : Acts
+  pub result : TurnResult
+  pub lawful : (worker : ℕ) → turn s (event_of worker a.state.number now acts (mark_of next)) a.state ≡ Some result
+  pub state' : (left_of next).state ≡ result.left
+  pub desk : stands result.h result.marks
+  -- the association
+  pub goes_on : GoesOn next
+  pub c : result.left.c ≡ a.state.c ++ acts.c
+  pub t : result.left.t ≡ a.state.t ++ acts.t
+  pub sent_c : length result.left.sent_c ≡ length a.state.sent_c + acts.sent_c
+  pub sent_t : length result.left.sent_t ≡ length a.state.sent_t + acts.sent_t
+  pub ends_c : acts.end_c ≡ true → result.left.end_c ≡ true
+  pub ends_t : acts.end_t ≡ true → result.left.end_t ≡ true
+  pub since : result.left.since ≡ a.state.since
+  pub number : result.left.number ≡ a.state.number
+  pub client : Holds (told (left_of next).client) result.left.c result.left.sent_c result.left.end_c result.left.shut_c
+  pub client_ends : EndsBehind (told (left_of next).client)
+  pub client_first : GivesFirst (told (left_of next).client)
+  pub target : HoldsTarget told result.left (left_of next).target
+  pub same_client : SameOutside (told a.client) (told (left_of next).client)
+  pub same_target : SameTarget told net a.target (left_of next).target
+  -- what was called, and what was read
+  pub behind : Record
+  pub taken' : (worker : ℕ) → taken s.basis s.generation (s.config).methods (event_of worker a.state.number now acts (mark_of next)) a.state ≡ Some behind
+  pub dials : DialsAre net.dials net'.dials (phase s.basis behind) acts.outer
+  pub plan' : PlanStays net net' acts.outer (is_some (reached_at (result.left).decisions))
+  pub outer' : IsOuterOf net (phase s.basis behind) acts.outer
+  pub stops_c : (worker : ℕ) → StopsReading a.state.end_c acts.end_c acts.idle_c acts.c acts.fault
+      (Unread s (event_of worker a.state.number now acts (mark_of next)) behind (reads_client s.basis (links acts.idle_c acts.idle_t) (links acts.full_c acts.full_t)))
+  pub stops_t : (worker : ℕ) → StopsReading a.state.end_t acts.end_t acts.idle_t acts.t acts.fault
+      (Unread s (event_of worker a.state.number now acts (mark_of next)) behind reads_target)
+  pub reads_end_c : (worker : ℕ) → acts.end_c ≡ true → ReadsEnd s a.state result.left (event_of worker a.state.number now acts (mark_of next)) a.state.end_c acts.c
+      (reads_client s.basis (links acts.idle_c acts.idle_t) (links acts.full_c acts.full_t)) waiting_for_target
+  pub reads_end_t : (worker : ℕ) → acts.end_t ≡ true → ReadsEnd s a.state result.left (event_of worker a.state.number now acts (mark_of next)) a.state.end_t acts.t reads_target waiting_for_client
+  pub idle_c : acts.idle_c ≡ true → IsIdle (told (left_of next).client) × Rose (counts a.client).idle_reads (counts (left_of next).client).idle_reads
+  pub idle_t : acts.idle_t ≡ true → IsThereAnd (left_of next).target (λ link. IsIdle (told link))
+  -- what was written
+  pub full_c : acts.full_c ≡ true → IsFull (told (left_of next).client) × Rose (counts a.client).idle_writes (counts (left_of next).client).idle_writes
+      × (length result.left.sent_c < length (owed_c result.left))
+  pub full_t : acts.full_t ≡ true → IsThereAnd (left_of next).target (λ link. IsFull (told link)) × (length result.left.sent_t < length (owed_t result.left))
+  pub fails_c : acts.fault ≡ Some Object.Client → Rose (counts a.client).faults (counts (left_of next).client).faults
+  pub unfailing : (told a.client).unfailing ≡ true → IsUnfailing told net a.target → (acts.fault ≡ None) × (acts.unwritten ≡ false)
+
+-- what a turn is made over: the users and the published configurations, the generation that was seen with its
+-- configuration, and the desk's history
+abbrev pub context : List User → List Config → ℕ → Config → ℕ → List Line → List StopBy → Context
+context users pubs generation config cap h marks = record {
+  basis = socks users pubs;
+  generation = generation;
+  config = config;
+  cap = cap;
+  h = h;
+  marks = marks;
+}

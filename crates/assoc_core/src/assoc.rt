@@ -1,0 +1,79 @@
+use addr_pattern::Endpoint;
+use conf_text::{List, Text};
+use net_ends::Link;
+use socks_machine::Record;
+use std::alloc::Global;
+
+/// An association between two turns: all that happened on it so far, and its links.
+#[derive(Drop)]
+pub struct Assoc<L> {
+    pub state: Record,
+    pub client: L,
+    pub target: Option<L>,
+}
+
+/// An association that has ended, with the links that it held.
+#[derive(Drop)]
+pub struct Ended<L> {
+    pub state: Record,
+    pub client: L,
+    pub target: Option<L>,
+}
+
+/// How a turn is answered.
+#[derive(Drop)]
+pub enum Next<L> {
+    /// Nothing more can be done before the outside changes.
+    Wait(Assoc<L>),
+    /// There may be more to do at once.
+    Again(Assoc<L>),
+    Done(Ended<L>),
+}
+
+impl<L: Link> Assoc<L> {
+    /// An association on which nothing has happened yet. `now` is in seconds.
+    pub fn open(
+        alloc: Global,
+        number: u64,
+        client: L,
+        peer: Endpoint,
+        local: Endpoint,
+        now: u64,
+    ) -> Assoc<L> {
+        let state = Record {
+            number,
+            peer,
+            local,
+            since: now,
+            c: Text::make(alloc),
+            t: Text::make(alloc),
+            sent_c: Text::make(alloc),
+            sent_t: Text::make(alloc),
+            end_c: false,
+            end_t: false,
+            shut_c: false,
+            shut_t: false,
+            chosen: None,
+            decisions: List::make(alloc),
+            grams: List::make(alloc),
+            sent_u: List::make(alloc),
+            cause: None,
+            at_close: None,
+            done: false,
+        };
+        Assoc {
+            state,
+            client,
+            target: None,
+        }
+    }
+
+    /// The association at its end.
+    pub(crate) fn end(self) -> Ended<L> {
+        Ended {
+            state: self.state,
+            client: self.client,
+            target: self.target,
+        }
+    }
+}

@@ -1,0 +1,9 @@
+//! One turn of one association: it reads, makes its one outer call, and writes.
+#![tactic(auto)]
+
+mod assoc;
+mod prelude;
+mod read;
+mod send;
+
+pub use assoc::{Assoc, Ended, Next};

@@ -1,0 +1,44 @@
+use conf_text::Text;
+use net_ends::{Link, Reading};
+use std::alloc::{AllocError, Global};
+use std::mem;
+
+/// How many bytes one read asks for at most.
+const PIECE: usize = 16384;
+
+/// What came of one read into a text.
+#[derive(Clone, Copy, Debug, PartialEq, Eq)]
+pub enum More {
+    Got(usize),
+    End,
+    NotYet,
+    Failed,
+}
+
+/// Reads a piece behind what the text holds, of at most `most` bytes. It makes room first, so that no byte is lost where
+/// memory is refused.
+pub fn read_more<L: Link>(
+    alloc: Global,
+    text: &mut Text,
+    link: &mut L,
+    most: usize,
+) -> Result<More, AllocError> {
+    let mut held = mem::replace(text, Text::make(alloc)).into_vec();
+    if held.reserve(PIECE).is_err() {
+        *text = Text::from_vec(held);
+        return Err(AllocError);
+    }
+    let mut piece = [0; PIECE];
+    let len = most.min(PIECE);
+    let answer = match link.read(&mut piece[..len]) {
+        Reading::Got(n) => match held.extend_from_slice(&piece[..n]) {
+            Ok(()) => More::Got(n),
+            Err(_) => unreachable!(),
+        },
+        Reading::End => More::End,
+        Reading::NotYet => More::NotYet,
+        Reading::Failed => More::Failed,
+    };
+    *text = Text::from_vec(held);
+    Ok(answer)
+}

@@ -1,0 +1,46 @@
+use conf_text::Text;
+use net_ends::{Link, Writing};
+use std::alloc::{AllocError, Global};
+use std::mem;
+
+/// How a sending of what is pending ended.
+#[derive(Clone, Copy, Debug, PartialEq, Eq)]
+pub enum Sent {
+    All,
+    Full,
+    Failed,
+}
+
+/// Writes until nothing is left, or the link takes nothing or fails; and how many bytes it took.
+pub fn send_all<L: Link>(link: &mut L, bytes: &[u8]) -> (usize, Sent) {
+    let mut at = 0;
+    while at < bytes.len() {
+        match link.write(&bytes[at..]) {
+            Writing::Took(n) => at += n,
+            Writing::NotYet => return (at, Sent::Full),
+            Writing::Failed => return (at, Sent::Failed),
+        }
+    }
+    (at, Sent::All)
+}
+
+/// Sends what is pending, and adds what the link took to what was sent. It makes room first.
+pub fn send_pending<L: Link>(
+    alloc: Global,
+    link: &mut L,
+    sent: &mut Text,
+    pending: &[u8],
+) -> Result<Sent, AllocError> {
+    let mut held = mem::replace(sent, Text::make(alloc)).into_vec();
+    if held.reserve(pending.len()).is_err() {
+        *sent = Text::from_vec(held);
+        return Err(AllocError);
+    }
+    let (n, outcome) = send_all(link, pending);
+    match held.extend_from_slice(&pending[..n]) {
+        Ok(()) => {}
+        Err(_) => unreachable!(),
+    }
+    *sent = Text::from_vec(held);
+    Ok(outcome)
+}
