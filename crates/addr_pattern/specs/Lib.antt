@@ -1,3 +1,4 @@
 pub mod AddressText
 pub mod Equal
 pub mod Matches
+pub mod Names

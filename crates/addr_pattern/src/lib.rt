@@ -3,6 +3,7 @@
 
 mod addr;
 mod endpoint;
+mod fault;
 mod fold;
 mod front;
 mod host;
@@ -12,8 +13,12 @@ mod short;
 
 pub use addr::Addr;
 pub use endpoint::Endpoint;
+pub use fault::AddrFault;
 pub use front::{BadAt, BadKind, Front, Span};
 pub use host::Host;
 pub use name::Name;
 pub use pattern::{HostPattern, Pattern, PortTest};
 pub use short::Short;
+
+#[cfg(test)]
+mod tests;

@@ -132,7 +132,9 @@ counts_in f gone ns once (e ∷ es) apart within =
     by_cases (cond (is_in e.number ns && f stand) 1 0 ≡ cond (f stand) 1 0) (f stand)
     (λ live. let listed : is_in e.number ns ≡ true = within e.number (rw this live) in rw listed refl)
     (λ dead. rw dead (rw (and-false (is_in e.number ns)) refl)) in
-    add_entry _ _ _ _ _ _ more rest counted (count_cons (λ (x : Entry). f (stand_of_live x.live)) e es (f stand) refl)
+    let under : Entry → Bool = λ (x : Entry). f (stand_of_live x.live) in
+    add_entry (count_by (λ n. f (standing_in (e ∷ es) n)) ns) (count_by (λ n. f (standing_in es n)) ns) (count_by under es) (count_by under (e ∷ es)) (cond (f stand) 1 0)
+    (cond (is_in e.number ns && f stand) 1 0) more rest counted (count_cons under e es (f stand) refl)
 
 -- the live numbers of the history that pass a test are as many as the entries that pass it
 counts : (f : Stand → Bool) → f Stand.Gone ≡ false → (h : List Line) (es : List Entry) → IsApart es → ((n : ℕ) → standing_in es n ≡ stand_of h n)
