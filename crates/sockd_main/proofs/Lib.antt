@@ -1,3 +1,0 @@
-pub mod Mores
-pub mod Refusals
-pub mod Statuses
