@@ -1,3 +1,4 @@
 pub mod Plain
+pub mod Reads
 pub mod Stands
 pub mod Turns

@@ -1,5 +1,5 @@
 -- An association between two turns, and the record that it stands for.
-use Rattle.std.specs.Prelude.{ℕ, ◌≡◌, Bool, true, false, Option, Some, None, List}
+use Rattle.std.specs.Prelude.{ℕ, ◌≡◌, Bool, true, false, Option, Some, None, List, []}
 use mathlib.Core.List.{IsPrefix}
 use Rattle.net_ends.specs.Told.{Told, Arrival}
 use Rattle.addr_pattern.specs.declared.endpoint.Endpoint.{Endpoint}
@@ -26,7 +26,7 @@ GivesFirst told = (arrival : Arrival) (given : List ℕ) → told.arrived ≡ So
 
 -- the target's link is there exactly where the target was reached
 abbrev pub HoldsTarget : {L : Type 0} → (L → Told) → Record → Option L → Type 0
-HoldsTarget told r None = reached_at r.decisions ≡ None
+HoldsTarget told r None = (reached_at r.decisions ≡ None) × (r.t ≡ []) × (r.sent_t ≡ [])
 HoldsTarget told r (Some link) = ((at : Endpoint) × (reached_at r.decisions ≡ Some at)) × Holds (told link) r.t r.sent_t r.end_t r.shut_t × EndsBehind (told link) × GivesFirst (told link)
 
 -- it tells what has arrived, and that is of the form which the first path serves

@@ -1,5 +1,5 @@
 -- What one turn of the first path comes to.
-use Rattle.std.specs.Prelude.{ℕ, ◌≡◌, ◌<◌, ◌≤◌, ◌⊎◌, Bool, true, false, ◌&&◌, Option, Some, None, List, [], ◌∷◌, ◌++◌, length, is_some}
+use Rattle.std.specs.Prelude.{ℕ, ◌+◌, ◌≡◌, ◌<◌, ◌≤◌, ◌⊎◌, Bool, true, false, ◌&&◌, Option, Some, None, List, [], ◌∷◌, ◌++◌, length, is_some}
 use Rattle.addr_pattern.specs.declared.endpoint.Endpoint.{Endpoint}
 use Rattle.conf_model.specs.declared.config.Config.{Config}
 use Rattle.conf_model.specs.declared.protocol.Command.{Command}
@@ -16,10 +16,11 @@ use Rattle.socks_machine.specs.declared.world.Outer.{Outer}
 use Rattle.socks_machine.specs.declared.world.TurnEvent.{TurnEvent}
 use Rattle.socks_machine.specs.Basis.{Basis}
 use Rattle.socks_machine.specs.Calls.{Context, TurnResult}
-use Rattle.socks_machine.specs.Phase.{Phase, phase}
+use Rattle.socks_machine.specs.Owed.{waiting_for_target, waiting_for_client}
+use Rattle.socks_machine.specs.Phase.{Phase, phase, is_udp}
 use Rattle.socks_machine.specs.Script.{without_ends}
 use Rattle.socks_machine.specs.Socks.{socks}
-use Rattle.socks_machine.specs.Taking.{taken, reads_client, reads_target}
+use Rattle.socks_machine.specs.Taking.{taken, reads_client, reads_target, pipe_size}
 use Rattle.socks_machine.specs.Turn.{turn, quantum}
 use Rattle.assoc_core.specs.declared.assoc.Assoc.{Assoc}
 use Rattle.assoc_core.specs.declared.assoc.Ended.{Ended}
@@ -97,7 +98,7 @@ left_of (Next.Done e) = record { state = e.state; client = e.client; target = e.
 abbrev pub GoesOn : {L : Type 0} → Next L → Type 0
 GoesOn (Next.Wait a) = IsPlainRecord a.state
 GoesOn (Next.Again a) = IsPlainRecord a.state
-GoesOn (Next.Done e) = e.state.done ≡ true
+GoesOn (Next.Done e) = (e.state.done ≡ true) × (is_udp e.state ≡ false)
 
 -- ---- the outside
 
@@ -142,9 +143,9 @@ IsIdle told = (arrival : Arrival) (given : List ℕ) → told.arrived ≡ Some a
 abbrev pub IsFull : Told → Type 0
 IsFull told = (cap : ℕ) (taken : List ℕ) → told.cap ≡ Some cap → told.taken ≡ Some taken → cap ≤ length taken
 
-abbrev pub IfThere : {L : Type 0} → Option L → (L → Type 0) → Type 0
-IfThere None p = Unit {0}
-IfThere (Some link) p = p link
+abbrev pub IsThereAnd : {L : Type 0} → Option L → (L → Type 0) → Type 0
+IsThereAnd None p = ⊥
+IsThereAnd (Some link) p = p link
 
 -- why nothing more was read of a side: it has ended, or answered NotYet, a quantum was taken, a call failed, or the
 -- phase behind all that was taken doesn't read it
@@ -162,13 +163,16 @@ pub record Unread (s : Context) (event : TurnEvent) (behind : Record) (reads : R
   pub end_t : event.end_t ≡ false
   pub unread' : reads behind (phase s.basis behind) ≡ false
 
--- an end was read where the phase behind all that was taken, but for the ends, reads that side
-pub record ReadsEnd (s : Context) (old : Record) (event : TurnEvent) (was : Bool) (part : List ℕ) (reads : Record → Phase → Bool) : Type 0 where
+-- An end was read where the phase behind all that was taken, but for the ends, reads that side. In Relay, where no call
+-- failed and no link was full, fewer bytes of this side wait behind the turn than a pipe holds.
+pub record ReadsEnd (s : Context) (old left : Record) (event : TurnEvent) (was : Bool) (part : List ℕ) (reads : Record → Phase → Bool)
+    (waiting : Basis → Record → ℕ) : Type 0 where
   pub unended : was ≡ false
   pub below : length part < quantum
   pub behind : Record
   pub taken' : taken s.basis s.generation (s.config).methods (without_ends event) old ≡ Some behind
   pub reads' : reads behind (phase s.basis behind) ≡ true
+  pub room : phase s.basis behind ≡ Phase.Relay → event.fault ≡ None → event.full ≡ [] → waiting s.basis left < pipe_size
 
 -- ---- a turn
 
@@ -185,6 +189,8 @@ pub record Turns {L : Type 0} (told : L → Told) (counts : L → Counts) (stand
   pub goes_on : GoesOn next
   pub c : result.left.c ≡ a.state.c ++ acts.c
   pub t : result.left.t ≡ a.state.t ++ acts.t
+  pub sent_c : length result.left.sent_c ≡ length a.state.sent_c + acts.sent_c
+  pub sent_t : length result.left.sent_t ≡ length a.state.sent_t + acts.sent_t
   pub since : result.left.since ≡ a.state.since
   pub number : result.left.number ≡ a.state.number
   pub client : Holds (told (left_of next).client) result.left.c result.left.sent_c result.left.end_c result.left.shut_c
@@ -201,16 +207,15 @@ pub record Turns {L : Type 0} (told : L → Told) (counts : L → Counts) (stand
       (Unread s (event_of worker a.state.number now acts (mark_of next)) behind (reads_client s.basis (links acts.idle_c acts.idle_t) (links acts.full_c acts.full_t)))
   pub stops_t : (worker : ℕ) → StopsReading a.state.end_t acts.end_t acts.idle_t acts.t acts.fault
       (Unread s (event_of worker a.state.number now acts (mark_of next)) behind reads_target)
-  pub reads_end_c : (worker : ℕ) → acts.end_c ≡ true → ReadsEnd s a.state (event_of worker a.state.number now acts (mark_of next)) a.state.end_c acts.c
-      (reads_client s.basis (links acts.idle_c acts.idle_t) (links acts.full_c acts.full_t))
-  pub reads_end_t : (worker : ℕ) → acts.end_t ≡ true → ReadsEnd s a.state (event_of worker a.state.number now acts (mark_of next)) a.state.end_t acts.t reads_target
+  pub reads_end_c : (worker : ℕ) → acts.end_c ≡ true → ReadsEnd s a.state result.left (event_of worker a.state.number now acts (mark_of next)) a.state.end_c acts.c
+      (reads_client s.basis (links acts.idle_c acts.idle_t) (links acts.full_c acts.full_t)) waiting_for_target
+  pub reads_end_t : (worker : ℕ) → acts.end_t ≡ true → ReadsEnd s a.state result.left (event_of worker a.state.number now acts (mark_of next)) a.state.end_t acts.t reads_target waiting_for_client
   pub idle_c : acts.idle_c ≡ true → IsIdle (told (left_of next).client) × Rose (counts a.client).idle_reads (counts (left_of next).client).idle_reads
-  pub idle_t : acts.idle_t ≡ true → IfThere (left_of next).target (λ link. IsIdle (told link))
+  pub idle_t : acts.idle_t ≡ true → IsThereAnd (left_of next).target (λ link. IsIdle (told link))
   -- what was written
   pub full_c : acts.full_c ≡ true → IsFull (told (left_of next).client) × Rose (counts a.client).idle_writes (counts (left_of next).client).idle_writes
       × (length result.left.sent_c < length (owed_c result.left))
-  pub full_t : acts.full_t ≡ true → IfThere (left_of next).target (λ link. IsFull (told link)) × (length result.left.sent_t < length (owed_t result.left))
-  pub all_sent : acts.fault ≡ None → phase s.basis behind ≡ Phase.Relay → ((acts.full_c ≡ false → result.left.sent_c ≡ owed_c result.left) × (acts.full_t ≡ false → result.left.sent_t ≡ owed_t result.left))
+  pub full_t : acts.full_t ≡ true → IsThereAnd (left_of next).target (λ link. IsFull (told link)) × (length result.left.sent_t < length (owed_t result.left))
   pub fails_c : acts.fault ≡ Some Object.Client → Rose (counts a.client).faults (counts (left_of next).client).faults
   pub unfailing : (told a.client).unfailing ≡ true → IsUnfailing told net a.target → (acts.fault ≡ None) × (acts.unwritten ≡ false)
 
