@@ -1,4 +1,5 @@
 pub mod Plain
+pub mod Preludes
 pub mod Reads
 pub mod Stands
 pub mod Turns

@@ -4,6 +4,7 @@
 mod assoc;
 mod prelude;
 mod read;
+mod replies;
 mod send;
 
 pub use assoc::{Assoc, Ended, Next};
