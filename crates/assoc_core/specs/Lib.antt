@@ -1,3 +1,4 @@
+pub mod Answered
 pub mod Plain
 pub mod Preludes
 pub mod Reads
