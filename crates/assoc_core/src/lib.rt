@@ -5,6 +5,7 @@ mod assoc;
 mod close;
 mod prelude;
 mod read;
+mod replies;
 mod send;
 
 pub use assoc::{Assoc, Ended, Next};
