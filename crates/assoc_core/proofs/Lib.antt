@@ -1,2 +1,3 @@
+pub mod Carryings
 pub mod PreludeBytes
 pub mod Sendings

@@ -2,9 +2,11 @@
 #![tactic(auto)]
 
 mod assoc;
+mod carry;
 mod close;
 mod prelude;
 mod read;
+mod relay;
 mod replies;
 mod send;
 
