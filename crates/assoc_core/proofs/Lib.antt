@@ -1,1 +1,2 @@
 pub mod PreludeBytes
+pub mod ServedInput

@@ -5,7 +5,7 @@ use Rattle.conf_model.specs.declared.config.Config.{Config}
 use Rattle.conf_model.specs.declared.protocol.Command.{Command}
 use Rattle.conf_model.specs.declared.user.User.{User}
 use Rattle.net_ends.specs.Counts.{Counts, Rose}
-use Rattle.net_ends.specs.Nets.{DialOutcome, NetTold, Plan}
+use Rattle.net_ends.specs.Nets.{Dial, DialOutcome, NetTold, Plan, dialled}
 use Rattle.net_ends.specs.Told.{Told, Arrival}
 use Rattle.socks_machine.specs.declared.cause.StopBy.{StopBy}
 use Rattle.socks_machine.specs.declared.lines.Line.{Line}
@@ -135,6 +135,13 @@ IsOuterOf net p (Outer.Desk logged) = Unit {0}
 IsOuterOf net (Phase.Reach g) outer = (g.facts.command ≡ Command.Connect) × ((plan : Plan) → net.plan ≡ Some plan → outer ≡ outer_of plan.outcome)
 IsOuterOf net p outer = ⊥
 
+-- the dials that the net tells are those before, and the one that this turn made, of the passed destination
+abbrev pub DialsAre : Option (List Dial) → Option (List Dial) → Phase → Outer → Type 0
+DialsAre old new p Outer.Nothing = new ≡ old
+DialsAre old new p (Outer.Desk logged) = new ≡ old
+DialsAre old new (Phase.Reach g) outer = (outcome : DialOutcome) × (outer ≡ outer_of outcome) × (new ≡ dialled old (record { to = g.facts.to; outcome = outcome }))
+DialsAre old new p outer = ⊥
+
 -- NotYet to a read: all that arrived was given, and no end stands behind it
 abbrev pub IsIdle : Told → Type 0
 IsIdle told = (arrival : Arrival) (given : List ℕ) → told.arrived ≡ Some arrival → told.given ≡ Some given → (given ≡ arrival.bytes) × (arrival.ends ≡ false)
@@ -179,7 +186,7 @@ pub record ReadsEnd (s : Context) (old left : Record) (event : TurnEvent) (was :
 -- One turn: a lawful event whose bytes, ends and outcomes are those that the outside told, and the association that
 -- stands for the record which it leaves.
 pub record Turns {L : Type 0} (told : L → Told) (counts : L → Counts) (stands : List Line → List StopBy → Type 0) (s : Context)
-    (now : ℕ) (net : NetTold) (a : Assoc L) (next : Next L) : Type 0 where
+    (now : ℕ) (net net' : NetTold) (a : Assoc L) (next : Next L) : Type 0 where
   pub acts : Acts
   pub result : TurnResult
   pub lawful : (worker : ℕ) → turn s (event_of worker a.state.number now acts (mark_of next)) a.state ≡ Some result
@@ -202,6 +209,7 @@ pub record Turns {L : Type 0} (told : L → Told) (counts : L → Counts) (stand
   -- what was called, and what was read
   pub behind : Record
   pub taken' : (worker : ℕ) → taken s.basis s.generation (s.config).methods (event_of worker a.state.number now acts (mark_of next)) a.state ≡ Some behind
+  pub dials : DialsAre net.dials net'.dials (phase s.basis behind) acts.outer
   pub outer' : IsOuterOf net (phase s.basis behind) acts.outer
   pub stops_c : (worker : ℕ) → StopsReading a.state.end_c acts.end_c acts.idle_c acts.c acts.fault
       (Unread s (event_of worker a.state.number now acts (mark_of next)) behind (reads_client s.basis (links acts.idle_c acts.idle_t) (links acts.full_c acts.full_t)))
