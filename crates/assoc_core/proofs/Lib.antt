@@ -1,2 +1,3 @@
 pub mod PreludeBytes
+pub mod Sendings
 pub mod ServedInput

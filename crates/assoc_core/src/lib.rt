@@ -2,6 +2,7 @@
 #![tactic(auto)]
 
 mod assoc;
+mod close;
 mod prelude;
 mod read;
 mod replies;
