@@ -1,3 +1,4 @@
+pub mod PlainRecords
 pub mod PreludeBytes
 pub mod Sendings
 pub mod ServedInput

@@ -29,6 +29,10 @@ right-true : (a b : Bool) → a && b ≡ true → b ≡ true
 right-true true b h = h
 right-true false b h = cc
 
+pub both-true : (a b : Bool) → a ≡ true → b ≡ true → a && b ≡ true
+both-true true b h k = k
+both-true false b h k = cc
+
 agree : (ws : List (Option ℕ)) (bytes : List ℕ) → agrees ws bytes ≡ true → Agreeing ws bytes
 agree [] bytes h = tt
 agree (w ∷ ws) [] h = tt
@@ -91,11 +95,8 @@ first-agrees : (ws : List (Option ℕ)) (x y : List ℕ) → agrees ws (x ++ y) 
 first-agrees [] x y h = refl
 first-agrees (w ∷ ws) [] y h = refl
 first-agrees (None ∷ ws) (b ∷ bs) y h = first-agrees ws bs y h
-first-agrees (Some w ∷ ws) (b ∷ bs) y h = by (w == b) refl h
-  where
-    by : (same : Bool) → w == b ≡ same → same && agrees ws (bs ++ y) ≡ true → (w == b) && agrees ws bs ≡ true
-    by true e k = ap (λ z. z && agrees ws bs) e ∙ first-agrees ws bs y k
-    by false e k = cc
+first-agrees (Some w ∷ ws) (b ∷ bs) y h =
+    both-true (w == b) (agrees ws bs) (left-true (w == b) (agrees ws (bs ++ y)) h) (first-agrees ws bs y (right-true (w == b) (agrees ws (bs ++ y)) h))
 
 pub served-first : (x y : List ℕ) → is_served_input (x ++ y) ≡ true → is_served_input x ≡ true
 served-first [] y h = refl
@@ -133,7 +134,7 @@ served_split (b0 ∷ bs) = if b0 == 5 then Split.More else Split.Bad 0 b0 BadKin
 abbrev IsSplit : List User → List ℕ → Type 0
 IsSplit users c = (chosen : Option Chosen) → HasChosen c chosen → split users (option_map (λ c. c.method) chosen) c ≡ served_split c
 
-other-split : (b : ℕ) (bs : List ℕ) → b == 5 ≡ false → served_split (b ∷ bs) ≡ Split.Bad 0 b BadKind.Version
+pub other-split : (b : ℕ) (bs : List ℕ) → b == 5 ≡ false → served_split (b ∷ bs) ≡ Split.Bad 0 b BadKind.Version
 other-split b0 [] e = ap (λ z. if z then Split.More else Split.Bad 0 b0 BadKind.Version) e
 other-split b0 (b1 ∷ []) e = ap (λ z. if z then Split.More else Split.Bad 0 b0 BadKind.Version) e
 other-split b0 (b1 ∷ b2 ∷ []) e = ap (λ z. if z then Split.More else Split.Bad 0 b0 BadKind.Version) e
