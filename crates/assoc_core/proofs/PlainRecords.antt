@@ -19,17 +19,17 @@ use Rattle.socks_machine.specs.declared.record.Chosen.{Chosen}
 use Rattle.socks_machine.specs.declared.record.Decision.{Decision}
 use Rattle.socks_machine.specs.declared.record.Record.{Record}
 use Rattle.socks_machine.specs.Basis.{Basis}
-use Rattle.socks_machine.specs.Decisions.{Grant, granted, reached_at}
+use Rattle.socks_machine.specs.Decisions.{Grant, opened, granted, reached_at}
 use Rattle.socks_machine.specs.Front.{Proxy}
-use Rattle.socks_machine.specs.Owed.{owed_to_client, owed_to_target, refusal_of_in, granted_replies_in, reply_at}
-use Rattle.socks_machine.specs.Phase.{Phase, phase, way, phase_split_in, relay_began, target_payload, began_by, replies_length}
+use Rattle.socks_machine.specs.Owed.{owed_to_client, owed_to_target, refusal_of_in, granted_replies_in, target_by}
+use Rattle.socks_machine.specs.Phase.{Phase, phase, way, phase_split_in, relay_began, phase_opened_in, phase_by_command, phase_connect, target_payload, client_payload, began_by, replies_length}
 use Rattle.socks_machine.specs.Replies.{refusal}
 use Rattle.socks_machine.specs.Served.{is_served_input, is_whole_input}
 use Rattle.socks_machine.specs.Socks.{socks, chosen_reply, passed_reply, success, is_in_login, is_granting_udp, is_udp_command, has_address, is_proxy5}
 use Rattle.socks_machine.specs.Step.{fresh}
-use Rattle.socks_machine.specs.View.{view, proxy_of, proxy_in, outcome_with, split_of, login_passed, login_fits_behind, asks_login}
+use Rattle.socks_machine.specs.View.{view, length_of, proxy_of, proxy_in, outcome_with, said_with, said_to_proxy, split_of, login_passed, login_fits_behind, asks_login}
 use Rattle.assoc_core.specs.Plain.{IsPlainRecord, HasChosen, HasDecided, Talking, Judged, Dialled, Untargeted, owed_c, owed_t, plain_to_client, plain_to_target, refusal_owed, no_login, success_reply, payload_to_client}
-use Rattle.assoc_core.specs.Preludes.{IsConnect}
+use Rattle.assoc_core.specs.Preludes.{IsConnect, address_at}
 use Rattle.assoc_core.proofs.ServedInput.{split-served, served_split, served-forms, Forms, other-split}
 
 -- ---- what was decided
@@ -222,3 +222,162 @@ late-owes users pubs r g rule g' facts verdict to at chosen connects =
     began : relay_began (socks users pubs) x ≡ true
     began = ap (λ (p : Option Proxy). began_by facts.command (way (Some at) (outcome_with r.t (direct_grant g' facts verdict) p)) None) direct
         ∙ ap (λ (k : Command). began_by k (Some at) None) connects
+
+reached-owes : (users : List User) (pubs : List Config) (r : Record) (g : ℕ) (rule : Option ℕ) (g' : ℕ) (facts : Facts) (verdict : Verdict) (to : Endpoint) (at : Option Endpoint)
+    → is_served_input r.c ≡ true → HasChosen r.c r.chosen → facts.command ≡ Command.Connect
+    → OwesClient users pubs r (Decision.Opened g rule None ∷ Decision.Granted g' facts verdict None None ∷ Decision.Reached to at ∷ [])
+reached-owes users pubs r g rule g' facts verdict to None served chosen connects =
+    early-owes users pubs (record r { decisions = Decision.Opened g rule None ∷ Decision.Granted g' facts verdict None None ∷ Decision.Reached to None ∷ [] }) served chosen
+    refl (ap (λ (k : Command). began_by k None None) connects) (no-proxy (numbered pubs g'))
+reached-owes users pubs r g rule g' facts verdict to (Some at) served chosen connects = late-owes users pubs r g rule g' facts verdict to at chosen connects
+
+pub plain-owes-client : (users : List User) (pubs : List Config) (r : Record) → IsPlainRecord r → owed_to_client (socks users pubs) r ≡ owed_c r
+plain-owes-client users pubs r h = decided-forms r (OwesClient users pubs r) (record {
+  nothing = λ fresh'. early-owes users pubs (record r { decisions = [] }) h.served h.chosen' refl refl refl;
+  opened' = λ g rule d. early-owes users pubs (record r { decisions = Decision.Opened g rule None ∷ [] }) h.served h.chosen' refl refl refl;
+  granted' = λ g rule g' facts verdict refused d.
+      early-owes users pubs (record r { decisions = Decision.Opened g rule None ∷ Decision.Granted g' facts verdict None refused ∷ [] }) h.served h.chosen'
+      refl (ap (λ (k : Command). began_by k None None) d.command) (no-proxy (numbered pubs g'));
+  reached' = λ g rule g' facts verdict to at d. reached-owes users pubs r g rule g' facts verdict to at h.served h.chosen' d.command;
+}) r.decisions h.decided
+
+-- ---- what is owed to the target
+
+-- a whole input of SOCKS 5 is a CONNECT
+pub whole-connect : (c : List ℕ) → is_served_input c ≡ true → is_whole_input c ≡ true → version_of c ≡ Some Version.V5 → (to : Endpoint) × IsConnect c to
+whole-connect c served = served-forms (λ c. is_whole_input c ≡ true → version_of c ≡ Some Version.V5 → (to : Endpoint) × IsConnect c to) (record {
+  none = λ h v. absurd (cc);
+  other = λ b bs e4 e5 h v. absurd (no-version b e4 e5 v);
+  one = λ h v. absurd (cc);
+  two = λ h v. absurd (cc);
+  three = λ h v. absurd (cc);
+  four = λ h v. absurd (cc);
+  five = λ h v. absurd (cc);
+  six = λ r h v. absurd (cc);
+  seven = λ r h v. absurd (cc);
+  eight = λ r a h v. absurd (cc);
+  nine = λ r a b h v. absurd (cc);
+  ten = λ r a b c h v. absurd (cc);
+  eleven = λ r a b c d h v. absurd (cc);
+  twelve = λ r a b c d p h v. absurd (cc);
+  whole = λ r a b c d p q bs h v. (address_at a b c d p q, record { reserved = r; a = a; b = b; c = c; d = d; p = p; q = q; payload = bs; bytes' = refl; to' = refl });
+}) c served
+  where
+    no-version : (b : ℕ) → b == 4 ≡ false → b == 5 ≡ false → (if b == 4 then Some Version.V4 else (if b == 5 then Some Version.V5 else None)) ≡ Some Version.V5 → ⊥
+    no-version b e4 e5 v = let k : (if b == 4 then Some Version.V4 else (if b == 5 then Some Version.V5 else None)) ≡ None = rw (e4, e5) refl in cc
+
+pub connect-length : (users : List User) (pubs : List Config) (r : Record) (to : Endpoint) → is_served_input r.c ≡ true → HasChosen r.c r.chosen → IsConnect r.c to
+    → length_of (split_of (socks users pubs) r) ≡ 13
+connect-length users pubs r to served chosen h = ap length_of (plain-split users pubs r served chosen ∙ connect-split r.c to h)
+
+and-false : (b : Bool) → b && false ≡ false
+and-false true = refl
+and-false false = refl
+
+abbrev OwesTarget : List User → List Config → Record → List Decision → Type 0
+OwesTarget users pubs r ds = owed_to_target (socks users pubs) (record r { decisions = ds }) ≡ plain_to_target r.c (reached_at ds)
+
+reached-owes-target : (users : List User) (pubs : List Config) (r : Record) (g : ℕ) (rule : Option ℕ) (g' : ℕ) (facts : Facts) (verdict : Verdict) (to : Endpoint) (at : Option Endpoint)
+    → is_served_input r.c ≡ true → HasChosen r.c r.chosen → Dialled r facts at
+    → OwesTarget users pubs r (Decision.Opened g rule None ∷ Decision.Granted g' facts verdict None None ∷ Decision.Reached to at ∷ [])
+reached-owes-target users pubs r g rule g' facts verdict to None served chosen d =
+    ap (λ (k : Command). elim (target_by None None k) [
+      | true ↦ said_to_proxy (socks users pubs) x ++ (if relay_began (socks users pubs) x then client_payload (socks users pubs) x else [])
+      | false ↦ []
+    ]) d.command
+  where
+    x : Record
+    x = record r { decisions = Decision.Opened g rule None ∷ Decision.Granted g' facts verdict None None ∷ Decision.Reached to None ∷ [] }
+reached-owes-target users pubs r g rule g' facts verdict to (Some at) served chosen d =
+    ap (λ (p : Option Proxy). due p facts.command (length_of (split_of (socks users pubs) x))) (no-proxy (numbered pubs g'))
+    ∙ (ap (λ (k : Command). due None k (length_of (split_of (socks users pubs) x))) d.command
+    ∙ ap (λ n. due None Command.Connect n) (connect-length users pubs x request.0 served chosen request.1))
+  where
+    x : Record
+    x = record r { decisions = Decision.Opened g rule None ∷ Decision.Granted g' facts verdict None None ∷ Decision.Reached to (Some at) ∷ [] }
+
+    request : (to : Endpoint) × IsConnect r.c to
+    request = whole-connect r.c served d.whole d.version
+
+    due : Option Proxy → Command → ℕ → List ℕ
+    due p k n = elim (target_by (Some at) None k) [
+      | true ↦ said_with r.t (direct_grant g' facts verdict) p ++ (if began_by k (way (Some at) (outcome_with r.t (direct_grant g' facts verdict) p)) None then drop n r.c else [])
+      | false ↦ []
+    ]
+
+pub plain-owes-target : (users : List User) (pubs : List Config) (r : Record) → IsPlainRecord r → owed_to_target (socks users pubs) r ≡ owed_t r
+plain-owes-target users pubs r h = decided-forms r (OwesTarget users pubs r) (record {
+  nothing = λ fresh'. refl;
+  opened' = λ g rule d. refl;
+  granted' = λ g rule g' facts verdict refused d.
+      let x : Record = record r { decisions = Decision.Opened g rule None ∷ Decision.Granted g' facts verdict None refused ∷ [] } in
+      ap (λ (k : Command). elim (is_none refused && target_by None None k) [
+        | true ↦ said_to_proxy (socks users pubs) x ++ (if relay_began (socks users pubs) x then client_payload (socks users pubs) x else [])
+        | false ↦ []
+      ]) d.command
+      ∙ ap (λ b. elim b [
+        | true ↦ said_to_proxy (socks users pubs) x ++ (if relay_began (socks users pubs) x then client_payload (socks users pubs) x else [])
+        | false ↦ []
+      ]) (and-false (is_none refused));
+  reached' = λ g rule g' facts verdict to at d. reached-owes-target users pubs r g rule g' facts verdict to at h.served h.chosen' d;
+}) r.decisions h.decided
+
+-- ---- the phase
+
+going-phase : (basis : Basis) (x : Record) → x.done ≡ false → x.cause ≡ None → phase basis x ≡ phase_opened_in (view basis x) x (opened x.decisions)
+going-phase basis x undone uncaused =
+    ap (λ b. if b then Phase.Ended else (if is_some x.cause then Phase.Closing else phase_opened_in (view basis x) x (opened x.decisions))) undone
+    ∙ ap (λ k. if is_some k then Phase.Closing else phase_opened_in (view basis x) x (opened x.decisions)) uncaused
+
+pub closing-phase : (basis : Basis) (x : Record) (cause : Cause) → x.done ≡ false → x.cause ≡ Some cause → phase basis x ≡ Phase.Closing
+closing-phase basis x cause undone fixed =
+    ap (λ b. if b then Phase.Ended else (if is_some x.cause then Phase.Closing else phase_opened_in (view basis x) x (opened x.decisions))) undone
+    ∙ ap (λ k. if is_some k then Phase.Closing else phase_opened_in (view basis x) x (opened x.decisions)) fixed
+
+pub talk-phase : (users : List User) (pubs : List Config) (r : Record) (g : ℕ) (rule : Option ℕ)
+    → r.done ≡ false → r.cause ≡ None → is_served_input r.c ≡ true → HasChosen r.c r.chosen → is_whole_input r.c ≡ false
+    → phase (socks users pubs) (record r { decisions = Decision.Opened g rule None ∷ [] }) ≡ Phase.Talk
+talk-phase users pubs r g rule undone uncaused served chosen unwhole =
+    going-phase (socks users pubs) x undone uncaused
+    ∙ ap (phase_split_in (view (socks users pubs) x) x) (plain-split users pubs x served chosen ∙ more-split r.c served unwhole)
+  where
+    x : Record
+    x = record r { decisions = Decision.Opened g rule None ∷ [] }
+
+pub judging-phase : (users : List User) (pubs : List Config) (r : Record) (g : ℕ) (rule : Option ℕ) (to : Endpoint)
+    → r.done ≡ false → r.cause ≡ None → is_served_input r.c ≡ true → HasChosen r.c r.chosen → IsConnect r.c to
+    → phase (socks users pubs) (record r { decisions = Decision.Opened g rule None ∷ [] }) ≡ Phase.Judging (request_to to)
+judging-phase users pubs r g rule to undone uncaused served chosen connects =
+    going-phase (socks users pubs) x undone uncaused
+    ∙ ap (phase_split_in (view (socks users pubs) x) x) (plain-split users pubs x served chosen ∙ connect-split r.c to connects)
+  where
+    x : Record
+    x = record r { decisions = Decision.Opened g rule None ∷ [] }
+
+pub reach-phase : (users : List User) (pubs : List Config) (r : Record) (g : ℕ) (rule : Option ℕ) (g' : ℕ) (facts : Facts) (verdict : Verdict)
+    → r.done ≡ false → r.cause ≡ None → is_served_input r.c ≡ true → HasChosen r.c r.chosen → is_whole_input r.c ≡ true → version_of r.c ≡ Some Version.V5
+    → phase (socks users pubs) (record r { decisions = Decision.Opened g rule None ∷ Decision.Granted g' facts verdict None None ∷ [] }) ≡ Phase.Reach (direct_grant g' facts verdict)
+reach-phase users pubs r g rule g' facts verdict undone uncaused served chosen whole version =
+    going-phase (socks users pubs) x undone uncaused
+    ∙ ap (phase_split_in (view (socks users pubs) x) x) (plain-split users pubs x served chosen ∙ connect-split r.c request.0 request.1)
+  where
+    x : Record
+    x = record r { decisions = Decision.Opened g rule None ∷ Decision.Granted g' facts verdict None None ∷ [] }
+
+    request : (to : Endpoint) × IsConnect r.c to
+    request = whole-connect r.c served whole version
+
+pub relay-phase : (users : List User) (pubs : List Config) (r : Record) (g : ℕ) (rule : Option ℕ) (g' : ℕ) (facts : Facts) (verdict : Verdict) (to at : Endpoint)
+    → r.done ≡ false → r.cause ≡ None → is_served_input r.c ≡ true → HasChosen r.c r.chosen → Dialled r facts (Some at)
+    → phase (socks users pubs) (record r { decisions = Decision.Opened g rule None ∷ Decision.Granted g' facts verdict None None ∷ Decision.Reached to (Some at) ∷ [] }) ≡ Phase.Relay
+relay-phase users pubs r g rule g' facts verdict to at undone uncaused served chosen d =
+    going-phase (socks users pubs) x undone uncaused
+    ∙ (ap (phase_split_in (view (socks users pubs) x) x) (plain-split users pubs x served chosen ∙ connect-split r.c request.0 request.1)
+    ∙ (ap (phase_by_command (view (socks users pubs) x) x (direct_grant g' facts verdict)) d.command
+    ∙ ap (λ (p : Option Proxy). phase_connect (outcome_with r.t (direct_grant g' facts verdict) p)) (no-proxy (numbered pubs g'))))
+  where
+    x : Record
+    x = record r { decisions = Decision.Opened g rule None ∷ Decision.Granted g' facts verdict None None ∷ Decision.Reached to (Some at) ∷ [] }
+
+    request : (to : Endpoint) × IsConnect r.c to
+    request = whole-connect r.c served d.whole d.version
