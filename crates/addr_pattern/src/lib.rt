@@ -3,6 +3,7 @@
 
 mod addr;
 mod endpoint;
+mod fold;
 mod front;
 mod host;
 mod name;

@@ -16,3 +16,15 @@ impl Model for Name {
 
     ghost invariant = { λ n. (1 ≤ n.len) × (n.len ≤ 255) };
 }
+
+impl Name {
+    ghost use Rattle.std.specs.Prelude.{◌≡◌, ◌≤◌, length};
+
+    pub fn as_bytes(&self) -> &[u8]
+        ensures value { result.now ≡ self.now }
+        ensures not_empty { 1 ≤ length self.now }
+        ensures short { length self.now ≤ 255 }
+    {
+        &self.bytes[..self.len as usize]
+    }
+}

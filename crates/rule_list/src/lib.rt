@@ -2,7 +2,12 @@
 #![tactic(auto)]
 
 mod facts;
+mod rule;
+mod search;
 mod verdict;
 
 pub use facts::Facts;
+pub use search::{
+    client_max, client_passes, first_client, first_route, first_socks, judge, socks_max,
+};
 pub use verdict::Verdict;
