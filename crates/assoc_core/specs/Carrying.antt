@@ -1,8 +1,9 @@
 -- One direction of a relay in one turn: its source is read, and its sink is written and shut.
-use Rattle.std.specs.Prelude.{ℕ, ◌≡◌, ◌<◌, ◌≤◌, Bool, true, false, ◌||◌, ◌&&◌, List, [], ◌++◌, length, drop}
+use Rattle.std.specs.Prelude.{ℕ, ◌≡◌, ◌<◌, ◌≤◌, Bool, true, false, ◌||◌, ◌&&◌, not, if◌then◌else◌, Option, Some, None, List, [], ◌++◌, length, drop}
 use Rattle.net_ends.specs.Counts.{Counts, Later, Rose}
 use Rattle.net_ends.specs.Told.{Told, more}
 use Rattle.socks_machine.specs.declared.record.Record.{Record}
+use Rattle.socks_machine.specs.declared.world.Object.{Object}
 use Rattle.socks_machine.specs.Relaying.{MayTake}
 use Rattle.socks_machine.specs.Taking.{some_in}
 use Rattle.socks_machine.specs.Turn.{quantum}
@@ -88,3 +89,36 @@ pub record Passes (client client' target target' : Told) (counts counts' : Count
   pub gives_c : GivesPart between_c client' counts_c counts' old.sent_c new.sent_c (drop (length old.sent_c) (owed_c new)) (is_read pass.took_c) (has_ended pass.took_t) old.shut_c new.shut_c pass.gave_c
   pub held : pass.took_c ≡ Take.Failed → (pass.gave_t ≡ Give.Held) × (pass.took_t ≡ Take.Unread) × (pass.gave_c ≡ Give.Held)
   pub is : new ≡ record old { c = new.c; t = new.t; end_c = new.end_c; end_t = new.end_t; sent_c = new.sent_c; sent_t = new.sent_t; shut_c = new.shut_c; shut_t = new.shut_t }
+
+abbrev pub is_idle : Take → Bool
+is_idle Take.NotYet = true
+is_idle _ = false
+
+abbrev pub is_quantum : Take → Bool
+is_quantum Take.Quantum = true
+is_quantum _ = false
+
+abbrev pub is_full : Give → Bool
+is_full Give.Full = true
+is_full _ = false
+
+abbrev pub is_unwritten : Give → Bool
+is_unwritten Give.Unwritten = true
+is_unwritten _ = false
+
+-- the object whose call failed first
+abbrev pub fault_of : Pass → Option Object
+fault_of pass =
+    if not (is_read pass.took_c) then Some Object.Client
+    else (if not (is_sound pass.gave_t && is_read pass.took_t) then Some Object.Target
+    else (if not (is_sound pass.gave_c) then Some Object.Client else None))
+
+abbrev pub unwritten_of : Pass → Bool
+unwritten_of pass = is_unwritten pass.gave_t || is_unwritten pass.gave_c
+
+abbrev pub took_quantum : Pass → Bool
+took_quantum pass = is_quantum pass.took_c || is_quantum pass.took_t
+
+-- something is pending to a link that took no more
+abbrev pub has_pending : Pass → Bool
+has_pending pass = is_full pass.gave_t || is_full pass.gave_c
