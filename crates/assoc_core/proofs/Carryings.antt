@@ -1,5 +1,6 @@
 -- How reads add up to what one turn takes of a source.
-use Rattle.std.proofs.Common.{◌≡◌, ◌+◌, ◌-◌, ◌<◌, ◌≤◌, ◌||◌, ℕ, Bool, true, false, List, [], ◌∷◌, ◌++◌, length, Option, Some, None, refl, ap, sym, subst, ◌∙◌, append_assoc, length-append, arith, is_some}
+use Rattle.std.proofs.Common.{◌≡◌, ◌+◌, ◌-◌, ◌<◌, ◌≤◌, ◌||◌, ℕ, Bool, true, false, List, [], ◌∷◌, ◌++◌, length, Option, Some, None, refl, ap, sym, subst, ◌∙◌, append_assoc, length-append, arith, is_some, nat_le, le-leb}
+use Rattle.std.proofs.lemmas.Bool.{lt-leb}
 use Rattle.std.proofs.lemmas.List.{append-nil}
 use mathlib.Core.List.{IsPrefix}
 use Rattle.net_ends.specs.Counts.{Counts, Later, Rose}
@@ -10,7 +11,7 @@ use Rattle.socks_machine.specs.Taking.{some_in}
 use Rattle.socks_machine.specs.Turn.{quantum}
 use Rattle.assoc_core.specs.declared.carry.Give.{Give}
 use Rattle.assoc_core.specs.declared.carry.Take.{Take}
-use Rattle.assoc_core.specs.Carrying.{TakesPart, TakeEnds, GivesPart, is_read}
+use Rattle.assoc_core.specs.Carrying.{TakesPart, TakeEnds, GivesPart, is_read, is_quantum}
 use Rattle.assoc_core.specs.Reads.{ComesOf, Rests}
 use Rattle.assoc_core.specs.Stands.{EndsBehind, GivesFirst}
 use Rattle.assoc_core.specs.Turns.{IsIdle}
@@ -60,10 +61,14 @@ goes-on old mid new counts counts' counts'' before text after left most n h k sa
 prefix-same : (xs : List ℕ) → IsPrefix xs xs
 prefix-same xs = ([], append-nil xs)
 
+-- fewer than a quantum were read
+pub fewer : (part : List ℕ) (left : ℕ) → length part + left ≡ quantum → 0 < left → nat_le quantum (length part) ≡ false
+fewer part left h some = lt-leb quantum (length part) (omega (arith, h, some))
+
 -- nothing was read
-pub unread : (told : Told) (counts : Counts) (text : List ℕ) (reads was : Bool) (take : Take) → TakeEnds told counts counts [] reads was take
+pub unread : (told : Told) (counts : Counts) (text : List ℕ) (reads was : Bool) (take : Take) → TakeEnds told counts counts [] reads was take → is_quantum take ≡ false
     → TakesPart told told counts counts text text reads was was take
-unread told counts text reads was take why = record {
+unread told counts text reads was take why fewer = record {
   part = [];
   ends = false;
   after' = sym (append-nil text);
@@ -71,6 +76,7 @@ unread told counts text reads was take why = record {
   told' = told-same told;
   may = record { bytes = λ h. cc; end = λ h. cc };
   below = λ h. cc;
+  whole = sym fewer;
   later = later-same counts;
   why = why;
   behind = λ h. h;
@@ -79,9 +85,9 @@ unread told counts text reads was take why = record {
 
 -- a source that hasn't ended gave nothing more
 pub stops : (old mid new : Told) (counts counts' counts'' : Counts) (before text after : List ℕ) (left : ℕ) (reads was ended : Bool) (take : Take) → (h : TakesSoFar old mid counts counts' before text left)
-    → Rests mid new text after → Later counts' counts'' → was ≡ false → ended ≡ false → TakeEnds new counts counts'' h.part reads ended take
+    → Rests mid new text after → Later counts' counts'' → was ≡ false → ended ≡ false → TakeEnds new counts counts'' h.part reads ended take → nat_le quantum (length h.part) ≡ is_quantum take
     → TakesPart old new counts counts'' before after reads was ended take
-stops old mid new counts counts' counts'' before text after left reads was ended take h k later unended unended' why = record {
+stops old mid new counts counts' counts'' before text after left reads was ended take h k later unended unended' why whole = record {
   part = h.part;
   ends = false;
   after' = k.after' ∙ h.after';
@@ -89,6 +95,7 @@ stops old mid new counts counts' counts'' before text after left reads was ended
   told' = k.told' ∙ h.told';
   may = record { bytes = λ some. unended; end = λ e. unended };
   below = λ e. cc;
+  whole = whole;
   later = later-on counts counts' counts'' h.later later;
   why = why;
   behind = λ x. subst EndsBehind (sym k.told') (h.behind x);
@@ -102,7 +109,7 @@ same told text = record { after' = refl; told' = refl }
 pub fills-quantum : (old new : Told) (counts counts' : Counts) (before after : List ℕ) (left : ℕ) (reads was ended : Bool) → TakesSoFar old new counts counts' before after left
     → left ≤ 0 → was ≡ false → ended ≡ false → TakesPart old new counts counts' before after reads was ended Take.Quantum
 fills-quantum old new counts counts' before after left reads was ended h none unended unended' =
-    stops old new new counts counts' counts' before after after left reads was ended Take.Quantum h (same new after) (later-same counts') unended unended' (unended', omega (arith, h.count))
+    stops old new new counts counts' counts' before after after left reads was ended Take.Quantum h (same new after) (later-same counts') unended unended' (unended', omega (arith, h.count)) (le-leb quantum (length h.part) (omega (arith, h.count)))
 
 -- the source has ended
 pub ends-now : (old mid new : Told) (counts counts' counts'' : Counts) (before text after : List ℕ) (left : ℕ) (reads was : Bool) → TakesSoFar old mid counts counts' before text left
@@ -116,6 +123,7 @@ ends-now old mid new counts counts' counts'' before text after left reads was h 
   told' = k.1 ∙ ap (λ (z : Told). let u : Told = record z { ended = true } in u) h.told';
   may = record { bytes = λ e. unended; end = λ e. unended };
   below = λ e. omega (arith, h.count);
+  whole = fewer h.part left h.count some;
   later = later-on counts counts' counts'' h.later later;
   why = refl;
   behind = λ x arrival given a b ended. arrived arrival given a b;

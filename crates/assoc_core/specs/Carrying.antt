@@ -1,5 +1,5 @@
 -- One direction of a relay in one turn: its source is read, and its sink is written and shut.
-use Rattle.std.specs.Prelude.{ℕ, ◌≡◌, ◌<◌, ◌≤◌, Bool, true, false, ◌||◌, ◌&&◌, not, if◌then◌else◌, Option, Some, None, List, [], ◌++◌, length, drop}
+use Rattle.std.specs.Prelude.{ℕ, ◌≡◌, ◌<◌, ◌≤◌, nat_le, Bool, true, false, ◌||◌, ◌&&◌, not, if◌then◌else◌, Option, Some, None, List, [], ◌++◌, length, drop}
 use Rattle.net_ends.specs.Counts.{Counts, Later, Rose}
 use Rattle.net_ends.specs.Told.{Told, more}
 use Rattle.socks_machine.specs.declared.record.Record.{Record}
@@ -22,6 +22,10 @@ TakeEnds told old new part reads ended Take.NotYet = (ended ≡ false) × IsIdle
 TakeEnds told old new part reads ended Take.Quantum = (ended ≡ false) × (quantum ≤ length part)
 TakeEnds told old new part reads ended Take.Failed = (ended ≡ false) × (told.unfailing ≡ false) × Rose old.faults new.faults
 
+abbrev pub is_quantum : Take → Bool
+is_quantum Take.Quantum = true
+is_quantum _ = false
+
 -- what was read of a source, and whether it ended
 pub record TakesPart (old new : Told) (counts counts' : Counts) (before after : List ℕ) (reads was ended : Bool) (take : Take) : Type 0 where
   pub part : List ℕ
@@ -31,6 +35,7 @@ pub record TakesPart (old new : Told) (counts counts' : Counts) (before after : 
   pub told' : new ≡ record old { given = more old.given part; ended = ends || old.ended }
   pub may : MayTake was (some_in part) ends
   pub below : ends ≡ true → length part < quantum
+  pub whole : nat_le quantum (length part) ≡ is_quantum take
   pub later : Later counts counts'
   pub why : TakeEnds new counts counts' part reads ended take
   pub behind : EndsBehind old → EndsBehind new
@@ -93,10 +98,6 @@ pub record Passes (client client' target target' : Told) (counts counts' : Count
 abbrev pub is_idle : Take → Bool
 is_idle Take.NotYet = true
 is_idle _ = false
-
-abbrev pub is_quantum : Take → Bool
-is_quantum Take.Quantum = true
-is_quantum _ = false
 
 abbrev pub is_full : Give → Bool
 is_full Give.Full = true
