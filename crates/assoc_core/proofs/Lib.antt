@@ -2,6 +2,7 @@ pub mod Carryings
 pub mod LinksHeld
 pub mod PlainRecords
 pub mod PreludeBytes
+pub mod RelayCloses
 pub mod RelayEnds
 pub mod RelayRecords
 pub mod RelaySums

@@ -65,13 +65,13 @@ never-late basis k now r plain same = by-limit (began basis r)
 
 -- ---- NotYet
 
-idle-c : (c t : Bool) → holds Object.Client (links c t) ≡ c
+pub idle-c : (c t : Bool) → holds Object.Client (links c t) ≡ c
 idle-c true true = refl
 idle-c true false = refl
 idle-c false true = refl
 idle-c false false = refl
 
-idle-t : (c t : Bool) → holds Object.Target (links c t) ≡ t
+pub idle-t : (c t : Bool) → holds Object.Target (links c t) ≡ t
 idle-t true true = refl
 idle-t true false = refl
 idle-t false true = refl
@@ -82,13 +82,13 @@ or-first true b c h = refl
 or-first false true c h = refl
 or-first false false c h = cc
 
-both : (a b : Bool) → a ≡ true → b ≡ true → a && b ≡ true
+pub both : (a b : Bool) → a ≡ true → b ≡ true → a && b ≡ true
 both true b h k = k
 both false b h k = h
 
 -- ---- what is pending
 
-drop-sent : (sent rest owed : List ℕ) → sent ++ rest ≡ owed → drop (length sent) owed ≡ rest
+pub drop-sent : (sent rest owed : List ℕ) → sent ++ rest ≡ owed → drop (length sent) owed ≡ rest
 drop-sent sent rest owed h = ap (drop (length sent)) (sym h) ∙ drop-append_seam sent rest
 
 -- ---- the relay in hand
@@ -109,7 +109,7 @@ in-phase users pubs generation config cap h marks old at c t end_c end_t b =
     let f = in-facts users pubs generation config cap h marks old at b in
     alike (socks users pubs) old (old.c ++ c) (old.t ++ t) end_c end_t f.direct (f.whole c) ∙ f.relays
 
-owes-c : (users : List User) (pubs : List Config) (old : Record) (at : Endpoint) (c t part_c rest_c part_t rest_t : List ℕ) (end_c end_t shut_c shut_t : Bool) (cause : Option Cause)
+pub owes-c : (users : List User) (pubs : List Config) (old : Record) (at : Endpoint) (c t part_c rest_c part_t rest_t : List ℕ) (end_c end_t shut_c shut_t : Bool) (cause : Option Cause)
     → InRelay users pubs old at c t part_c rest_c part_t rest_t end_c end_t shut_c shut_t
     → (old.sent_c ++ part_c) ++ rest_c ≡ owed_to_client (socks users pubs) (summed old c t part_c part_t end_c end_t shut_c shut_t cause)
 owes-c users pubs old at c t part_c rest_c part_t rest_t end_c end_t shut_c shut_t cause k =
@@ -117,7 +117,7 @@ owes-c users pubs old at c t part_c rest_c part_t rest_t end_c end_t shut_c shut
     ∙ sym (plain-owes-client users pubs (summed old c t part_c part_t end_c end_t shut_c shut_t cause)
     (sums-carried old at c t part_c rest_c part_t rest_t end_c end_t shut_c shut_t cause k.begun k.sums k.apart))
 
-owes-t : (users : List User) (pubs : List Config) (old : Record) (at : Endpoint) (c t part_c rest_c part_t rest_t : List ℕ) (end_c end_t shut_c shut_t : Bool) (cause : Option Cause)
+pub owes-t : (users : List User) (pubs : List Config) (old : Record) (at : Endpoint) (c t part_c rest_c part_t rest_t : List ℕ) (end_c end_t shut_c shut_t : Bool) (cause : Option Cause)
     → InRelay users pubs old at c t part_c rest_c part_t rest_t end_c end_t shut_c shut_t
     → (old.sent_t ++ part_t) ++ rest_t ≡ owed_to_target (socks users pubs) (summed old c t part_c part_t end_c end_t shut_c shut_t cause)
 owes-t users pubs old at c t part_c rest_c part_t rest_t end_c end_t shut_c shut_t cause k =
@@ -238,7 +238,7 @@ fault_acts x o unwritten outer = record x { fault = Some o; unwritten = unwritte
 abbrev pub desk_acts : Acts → Outer → Acts
 desk_acts x outer = record x { outer = outer }
 
-opened-by : (r : Record) (at : Endpoint) → IsPlainRecord r → reached_at r.decisions ≡ Some at → is_opened r.decisions ≡ true
+pub opened-by : (r : Record) (at : Endpoint) → IsPlainRecord r → reached_at r.decisions ≡ Some at → is_opened r.decisions ≡ true
 opened-by r at plain reaches = decided-forms r (λ ds. reached_at ds ≡ Some at → is_opened ds ≡ true) (record {
   nothing = λ fresh' k. absurd (cc);
   opened' = λ g rule d k. refl;
