@@ -1,5 +1,6 @@
 pub mod Answered
 pub mod Closing
+pub mod Lines
 pub mod Plain
 pub mod Preludes
 pub mod Reads

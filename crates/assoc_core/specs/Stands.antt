@@ -26,7 +26,7 @@ GivesFirst told = (arrival : Arrival) (given : List ℕ) → told.arrived ≡ So
 
 -- the target's link is there exactly where the target was reached
 abbrev pub HoldsTarget : {L : Type 0} → (L → Told) → Record → Option L → Type 0
-HoldsTarget told r None = (reached_at r.decisions ≡ None) × (r.t ≡ []) × (r.sent_t ≡ [])
+HoldsTarget told r None = (reached_at r.decisions ≡ None) × (r.t ≡ []) × (r.sent_t ≡ []) × (r.end_t ≡ false)
 HoldsTarget told r (Some link) = ((at : Endpoint) × (reached_at r.decisions ≡ Some at)) × Holds (told link) r.t r.sent_t r.end_t r.shut_t × EndsBehind (told link) × GivesFirst (told link)
 
 -- it tells what has arrived, and that is of the form which the first path serves

@@ -1,10 +1,12 @@
 //! One turn of one association: it reads, makes its one outer call, and writes.
 #![tactic(auto)]
 
+mod accept;
 mod assoc;
 mod close;
 mod prelude;
 mod read;
+mod refusals;
 mod replies;
 mod send;
 
