@@ -16,6 +16,7 @@ use Rattle.socks_machine.specs.declared.world.Outer.{Outer}
 use Rattle.socks_machine.specs.declared.world.TurnEvent.{TurnEvent}
 use Rattle.socks_machine.specs.Basis.{Basis}
 use Rattle.socks_machine.specs.Calls.{Context, TurnResult}
+use Rattle.socks_machine.specs.Decisions.{reached_at}
 use Rattle.socks_machine.specs.Owed.{waiting_for_target, waiting_for_client}
 use Rattle.socks_machine.specs.Phase.{Phase, phase, is_udp}
 use Rattle.socks_machine.specs.Script.{without_ends}
@@ -142,6 +143,11 @@ DialsAre old new p (Outer.Desk logged) = new ≡ old
 DialsAre old new (Phase.Reach g) outer = (outcome : DialOutcome) × (outer ≡ outer_of outcome) × (new ≡ dialled old (record { to = g.facts.to; outcome = outcome }))
 DialsAre old new p outer = ⊥
 
+-- the plan of the next dial stays as it was, unless a dial came up, and then the target was reached
+abbrev pub PlanStays : NetTold → NetTold → Outer → Bool → Type 0
+PlanStays net net' (Outer.Up at) there = there ≡ true
+PlanStays net net' outer there = net'.plan ≡ net.plan
+
 -- NotYet to a read: all that arrived was given, and no end stands behind it
 abbrev pub IsIdle : Told → Type 0
 IsIdle told = (arrival : Arrival) (given : List ℕ) → told.arrived ≡ Some arrival → told.given ≡ Some given → (given ≡ arrival.bytes) × (arrival.ends ≡ false)
@@ -212,6 +218,7 @@ pub record Turns {L : Type 0} (told : L → Told) (counts : L → Counts) (stand
   pub behind : Record
   pub taken' : (worker : ℕ) → taken s.basis s.generation (s.config).methods (event_of worker a.state.number now acts (mark_of next)) a.state ≡ Some behind
   pub dials : DialsAre net.dials net'.dials (phase s.basis behind) acts.outer
+  pub plan' : PlanStays net net' acts.outer (is_some (reached_at (result.left).decisions))
   pub outer' : IsOuterOf net (phase s.basis behind) acts.outer
   pub stops_c : (worker : ℕ) → StopsReading a.state.end_c acts.end_c acts.idle_c acts.c acts.fault
       (Unread s (event_of worker a.state.number now acts (mark_of next)) behind (reads_client s.basis (links acts.idle_c acts.idle_t) (links acts.full_c acts.full_t)))

@@ -71,3 +71,11 @@ IfUp Dialing.Failed p = Unit {0}
 pub record AsPlanned {L : Type 0} (told : L → Told) (plan : Plan) (dialing : Dialing L) : Type 0 where
   pub outcome : outcome_of dialing ≡ plan.outcome
   pub link : IfUp dialing (λ link. told link ≡ plan.link)
+
+-- a dial that gave no link leaves the plan as it was
+abbrev pub KeepsPlan : {L : Type 0} → Dialing L → Option Plan → Option Plan → Type 0
+KeepsPlan (Dialing.Up link local) old new = Unit {0}
+KeepsPlan Dialing.Refused old new = new ≡ old
+KeepsPlan Dialing.HostUnreachable old new = new ≡ old
+KeepsPlan Dialing.NetUnreachable old new = new ≡ old
+KeepsPlan Dialing.Failed old new = new ≡ old
