@@ -179,7 +179,7 @@ early-owes users pubs x served chosen unanswered unbegan direct =
     refused = refusal_of_in (view (socks users pubs) x) x x.cause
 
 -- a grant without a route goes by no proxy
-no-proxy : (config : Option Config) → proxy_in None config ≡ None
+pub no-proxy : (config : Option Config) → proxy_in None config ≡ None
 no-proxy None = refl
 no-proxy (Some config) = refl
 

@@ -1,4 +1,5 @@
 pub mod Answered
+pub mod Carrying
 pub mod Closing
 pub mod Lines
 pub mod Plain

@@ -99,7 +99,7 @@ left_of (Next.Done e) = record { state = e.state; client = e.client; target = e.
 abbrev pub GoesOn : {L : Type 0} → Next L → Type 0
 GoesOn (Next.Wait a) = IsPlainRecord a.state
 GoesOn (Next.Again a) = IsPlainRecord a.state
-GoesOn (Next.Done e) = (e.state.done ≡ true) × (is_udp e.state ≡ false)
+GoesOn (Next.Done e) = (e.state.done ≡ true) × (is_udp e.state ≡ false) × (e.state.sent_u ≡ [])
 
 -- ---- the outside
 

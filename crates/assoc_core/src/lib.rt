@@ -3,10 +3,12 @@
 
 mod accept;
 mod assoc;
+mod carry;
 mod close;
 mod prelude;
 mod read;
 mod refusals;
+mod relay;
 mod replies;
 mod send;
 
