@@ -5,6 +5,7 @@ mod accept;
 mod assoc;
 mod carry;
 mod close;
+mod hear;
 mod prelude;
 mod read;
 mod refusals;
