@@ -165,8 +165,8 @@ fresh-turns told counts stands users pubs generation config cap h marks now net 
       dials = refl;
       plan' = refl;
       outer' = tt;
-      stops_c = λ worker. StopsReading.unread (record { end_c = refl; end_t = refl; unread' = refl });
-      stops_t = λ worker. StopsReading.unread (record { end_c = refl; end_t = refl; unread' = refl });
+      stops_c = λ worker. StopsReading.unread (record { behind = r; taken' = refl; unread' = refl });
+      stops_t = λ worker. StopsReading.unread (record { behind = r; taken' = refl; unread' = refl });
       reads_end_c = λ worker h1. absurd (cc);
       reads_end_t = λ worker h1. absurd (cc);
       idle_c = λ h1. absurd (cc);
@@ -186,7 +186,7 @@ fresh-turns told counts stands users pubs generation config cap h marks now net 
       lawful = λ worker. opens-some users pubs generation config cap h marks now worker number peer local logged cause e;
       state' = refl;
       desk = desk;
-      goes_on = (refl, refl);
+      goes_on = (refl, refl, refl);
       c = refl;
       t = refl;
       ends_c = λ h1. h1;
@@ -206,8 +206,8 @@ fresh-turns told counts stands users pubs generation config cap h marks now net 
       dials = refl;
       plan' = refl;
       outer' = tt;
-      stops_c = λ worker. StopsReading.unread (record { end_c = refl; end_t = refl; unread' = refl });
-      stops_t = λ worker. StopsReading.unread (record { end_c = refl; end_t = refl; unread' = refl });
+      stops_c = λ worker. StopsReading.unread (record { behind = r; taken' = refl; unread' = refl });
+      stops_t = λ worker. StopsReading.unread (record { behind = r; taken' = refl; unread' = refl });
       reads_end_c = λ worker h1. absurd (cc);
       reads_end_t = λ worker h1. absurd (cc);
       idle_c = λ h1. absurd (cc);
