@@ -1,4 +1,6 @@
+pub mod Accepting
 pub mod Carryings
+pub mod Hearings
 pub mod LinksHeld
 pub mod PlainRecords
 pub mod PreludeBytes
@@ -8,3 +10,4 @@ pub mod RelayRecords
 pub mod RelaySums
 pub mod Sendings
 pub mod ServedInput
+pub mod StandsLaws

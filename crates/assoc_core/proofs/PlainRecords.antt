@@ -192,9 +192,9 @@ late-owes : (users : List User) (pubs : List Config) (r : Record) (g : ℕ) (rul
 late-owes users pubs r g rule g' facts verdict to at chosen connects =
     ap (λ p. ((chosen_reply r.chosen ++ passed_reply p) ++ replies) ++ payload ++ refused) (no-login-passed (socks users pubs) x chosen)
     ∙ (ap (λ (p : Option Proxy).
-      ((chosen_reply r.chosen ++ []) ++ (by_way (way (Some at) (outcome_with r.t (direct_grant g' facts verdict) p)) ++ []))
-      ++ (if began_by facts.command (way (Some at) (outcome_with r.t (direct_grant g' facts verdict) p)) None then drop (replies_length (outcome_with r.t (direct_grant g' facts verdict) p)) r.t else [])
-      ++ refused) direct
+    ((chosen_reply r.chosen ++ []) ++ (by_way (way (Some at) (outcome_with r.t (direct_grant g' facts verdict) p)) ++ []))
+    ++ (if began_by facts.command (way (Some at) (outcome_with r.t (direct_grant g' facts verdict) p)) None then drop (replies_length (outcome_with r.t (direct_grant g' facts verdict) p)) r.t else [])
+    ++ refused) direct
     ∙ (ap (λ (k : Command). ((chosen_reply r.chosen ++ []) ++ (success (version_of r.c) k at ++ [])) ++ (if began_by k (Some at) None then drop 0 r.t else []) ++ refused) connects
     ∙ (ap (λ z. (((chosen_reply r.chosen ++ []) ++ (success (version_of r.c) Command.Connect at ++ [])) ++ drop 0 r.t) ++ z)
     (refused-late (socks users pubs) x began r.cause)

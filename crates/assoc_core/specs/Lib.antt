@@ -1,6 +1,8 @@
 pub mod Answered
 pub mod Carrying
 pub mod Closing
+pub mod Hearing
+pub mod Lines
 pub mod Plain
 pub mod Preludes
 pub mod Reads

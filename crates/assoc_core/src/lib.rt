@@ -1,11 +1,14 @@
 //! One turn of one association: it reads, makes its one outer call, and writes.
 #![tactic(auto)]
 
+mod accept;
 mod assoc;
 mod carry;
 mod close;
+mod hear;
 mod prelude;
 mod read;
+mod refusals;
 mod relay;
 mod replies;
 mod send;
