@@ -2,6 +2,7 @@ pub mod Accepting
 pub mod Carryings
 pub mod Hearings
 pub mod LinksHeld
+pub mod PassLaws
 pub mod PlainRecords
 pub mod PreludeBytes
 pub mod RelayCloses
