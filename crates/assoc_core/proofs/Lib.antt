@@ -9,6 +9,7 @@ pub mod RelayCloses
 pub mod RelayEnds
 pub mod RelayRecords
 pub mod RelaySums
+pub mod RelayTurns
 pub mod Sendings
 pub mod ServedInput
 pub mod StandsLaws

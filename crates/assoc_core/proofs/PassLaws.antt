@@ -8,7 +8,7 @@ use Rattle.socks_machine.specs.Turn.{quantum}
 use Rattle.assoc_core.specs.declared.carry.Give.{Give}
 use Rattle.assoc_core.specs.declared.carry.Take.{Take}
 use Rattle.assoc_core.specs.declared.relay.Pass.{Pass}
-use Rattle.assoc_core.specs.Carrying.{TakeEnds, GiveEnds, has_ended, is_read, is_sound, is_idle, is_full, is_unwritten, is_quantum, fault_of, unwritten_of, has_pending}
+use Rattle.assoc_core.specs.Carrying.{TakeEnds, GiveEnds, TakesPart, GivesPart, has_ended, is_read, is_sound, is_idle, is_full, is_unwritten, is_quantum, fault_of, unwritten_of, has_pending}
 use Rattle.assoc_core.specs.Turns.{IsIdle, IsFull, StopsReading}
 use Rattle.assoc_core.proofs.RelayEnds.{some-left}
 use Rattle.assoc_core.proofs.RelaySums.{clash}
@@ -162,3 +162,51 @@ sound-written Give.All h = refl
 sound-written Give.Full h = refl
 sound-written Give.Unwritten h = cc
 sound-written Give.Unshut h = refl
+
+-- ---- the same, of whole steps
+
+pub ended-of : {old new : Told} {counts counts' : Counts} {before after : List ℕ} {reads was ended : Bool} {take : Take} → TakesPart old new counts counts' before after reads was ended take
+    → has_ended take ≡ true → ended ≡ true
+ended-of {new = new} {counts = counts} {counts' = counts'} {reads = reads} {ended = ended} {take = take} k h = ended-by new counts counts' k.part reads ended take h k.why
+
+pub idle-of : {old new : Told} {counts counts' : Counts} {before after : List ℕ} {reads was ended : Bool} {take : Take} → TakesPart old new counts counts' before after reads was ended take
+    → is_idle take ≡ true → IsIdle new × Rose counts.idle_reads counts'.idle_reads
+idle-of {new = new} {counts = counts} {counts' = counts'} {reads = reads} {ended = ended} {take = take} k h = idle-by new counts counts' k.part reads ended take h k.why
+
+pub unread-of : {old new : Told} {counts counts' : Counts} {before after : List ℕ} {reads was ended : Bool} {take : Take} → TakesPart old new counts counts' before after reads was ended take
+    → is_read take ≡ false → (ended ≡ false) × (new.unfailing ≡ false) × Rose counts.faults counts'.faults
+unread-of {new = new} {counts = counts} {counts' = counts'} {reads = reads} {ended = ended} {take = take} k h = unread-by new counts counts' k.part reads ended take h k.why
+
+pub stops-of : {old new : Told} {counts counts' : Counts} {before after : List ℕ} {reads was ended : Bool} {take : Take} → (fault : Option Object) (Unread : Type 0)
+    → (k : TakesPart old new counts counts' before after reads was ended take) → (reads ≡ false → is_some fault ≡ true) → (is_read take ≡ false → is_some fault ≡ true)
+    → StopsReading was k.ends (is_idle take) k.part fault Unread
+stops-of {new = new} {counts = counts} {counts' = counts'} {reads = reads} {was = was} {ended = ended} {take = take} fault Unread k h l =
+    stops-by new counts counts' k.part reads was k.ends ended take fault Unread k.why k.ended' h l
+
+pub source-of : {old new : Told} {counts counts' : Counts} {before after : List ℕ} {reads was ended : Bool} {take : Take} → TakesPart old new counts counts' before after reads was ended take
+    → reads ≡ true → is_read take ≡ true → is_quantum take ≡ false → ended || is_idle take ≡ true
+source-of {new = new} {counts = counts} {counts' = counts'} {reads = reads} {ended = ended} {take = take} k r h q = source-by new counts counts' k.part reads ended take k.why r h q
+
+pub end-of : {old new : Told} {counts counts' : Counts} {before after : List ℕ} {reads was ended : Bool} {take : Take} → TakesPart old new counts counts' before after reads was ended take
+    → reads ≡ true → ended ≡ true → has_ended take ≡ true
+end-of {new = new} {counts = counts} {counts' = counts'} {reads = reads} {ended = ended} {take = take} k r h = end-by new counts counts' k.part reads ended take k.why r h
+
+pub full-of : {old new : Told} {counts counts' : Counts} {before after pending : List ℕ} {gives ends was shut : Bool} {give : Give} → (k : GivesPart old new counts counts' before after pending gives ends was shut give)
+    → is_full give ≡ true → (0 < length k.rest) × IsFull new × Rose counts.idle_writes counts'.idle_writes
+full-of {new = new} {counts = counts} {counts' = counts'} {gives = gives} {ends = ends} {shut = shut} {give = give} k h = full-by new counts counts' k.rest gives ends shut give h k.why
+
+pub unsound-of : {old new : Told} {counts counts' : Counts} {before after pending : List ℕ} {gives ends was shut : Bool} {give : Give} → (k : GivesPart old new counts counts' before after pending gives ends was shut give)
+    → is_sound give ≡ false → (new.unfailing ≡ false) × Rose counts.faults counts'.faults × ((0 < length k.rest) ⊎ ((ends ≡ true) × (shut ≡ false)))
+unsound-of {new = new} {counts = counts} {counts' = counts'} {gives = gives} {ends = ends} {shut = shut} {give = give} k h = unsound-by new counts counts' k.rest gives ends shut give h k.why
+
+pub left-of : {old new : Told} {counts counts' : Counts} {before after pending : List ℕ} {gives ends was shut : Bool} {give : Give} → (k : GivesPart old new counts counts' before after pending gives ends was shut give)
+    → is_unwritten give ≡ true → (0 < length k.rest) × (new.unfailing ≡ false)
+left-of {new = new} {counts = counts} {counts' = counts'} {gives = gives} {ends = ends} {shut = shut} {give = give} k h = unwritten-by new counts counts' k.rest gives ends shut give h k.why
+
+pub sent-of : {old new : Told} {counts counts' : Counts} {before after pending : List ℕ} {gives ends was shut : Bool} {give : Give} → (k : GivesPart old new counts counts' before after pending gives ends was shut give)
+    → gives ≡ true → is_sound give ≡ true → is_full give ≡ false → (k.rest ≡ []) × (ends ≡ true → shut ≡ true)
+sent-of {new = new} {counts = counts} {counts' = counts'} {gives = gives} {ends = ends} {shut = shut} {give = give} k g s f = sent-by new counts counts' k.rest gives ends shut give k.why g s f
+
+pub nothing-of : {old new : Told} {counts counts' : Counts} {before after pending : List ℕ} {gives ends was shut : Bool} {give : Give} → (k : GivesPart old new counts counts' before after pending gives ends was shut give)
+    → gives ≡ true → is_unwritten give ≡ false → is_nothing k.rest ≡ not (is_full give)
+nothing-of {new = new} {counts = counts} {counts' = counts'} {gives = gives} {ends = ends} {shut = shut} {give = give} k g u = nothing-by new counts counts' k.rest gives ends shut give k.why g u
