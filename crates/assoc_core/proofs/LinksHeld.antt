@@ -42,36 +42,26 @@ holds-given old new counts counts' given sent sent' pending gives ends ended shu
   shut' = ap (λ b. k.shuts || b) h.shut' ∙ sym k.shut';
 })
 
-pub ends-given : (old new : Told) (part : List ℕ) (shuts : Bool) → new ≡ told_less old part shuts → EndsBehind old → EndsBehind new
-ends-given old new part shuts e h = subst EndsBehind (sym e) h
+pub ends-given : {old new : Told} {counts counts' : Counts} {before after pending : List ℕ} {gives ends was shut : Bool} {give : Give} → GivesPart old new counts counts' before after pending gives ends was shut give → EndsBehind old → EndsBehind new
+ends-given k h = subst EndsBehind (sym k.told') h
 
-pub first-given : (old new : Told) (part : List ℕ) (shuts : Bool) → new ≡ told_less old part shuts → GivesFirst old → GivesFirst new
-first-given old new part shuts e h = subst GivesFirst (sym e) h
+pub first-given : {old new : Told} {counts counts' : Counts} {before after pending : List ℕ} {gives ends was shut : Bool} {give : Give} → GivesPart old new counts counts' before after pending gives ends was shut give → GivesFirst old → GivesFirst new
+first-given k h = subst GivesFirst (sym k.told') h
 
-pub idle-given : (old new : Told) (part : List ℕ) (shuts : Bool) → new ≡ told_less old part shuts → IsIdle old → IsIdle new
-idle-given old new part shuts e h = subst IsIdle (sym e) h
+pub idle-given : {old new : Told} {counts counts' : Counts} {before after pending : List ℕ} {gives ends was shut : Bool} {give : Give} → GivesPart old new counts counts' before after pending gives ends was shut give → IsIdle old → IsIdle new
+idle-given k h = subst IsIdle (sym k.told') h
 
-pub full-taken : (old new : Told) (part : List ℕ) (ends : Bool) → new ≡ told_more old part ends → IsFull old → IsFull new
-full-taken old new part ends e h = subst IsFull (sym e) h
+pub full-taken : {old new : Told} {counts counts' : Counts} {before after : List ℕ} {reads was ended : Bool} {take : Take} → TakesPart old new counts counts' before after reads was ended take → IsFull old → IsFull new
+full-taken k h = subst IsFull (sym k.told') h
 
-pub outside-same : (told : Told) → SameOutside told told
-outside-same told = record { arrived = refl; cap = refl; unfailing = refl }
+pub outside-given : {old new : Told} {counts counts' : Counts} {before after pending : List ℕ} {gives ends was shut : Bool} {give : Give} → GivesPart old new counts counts' before after pending gives ends was shut give → SameOutside old new
+outside-given k = record { arrived = ap (λ (z : Told). z.arrived) k.told'; cap = ap (λ (z : Told). z.cap) k.told'; unfailing = ap (λ (z : Told). z.unfailing) k.told' }
 
--- first a read and then a write
-pub outside-client : (old mid new : Told) (part part' : List ℕ) (ends shuts : Bool) → mid ≡ told_more old part ends → new ≡ told_less mid part' shuts → SameOutside old new
-outside-client old mid new part part' ends shuts h k = record {
-  arrived = ap (λ (z : Told). z.arrived) k ∙ ap (λ (z : Told). z.arrived) h;
-  cap = ap (λ (z : Told). z.cap) k ∙ ap (λ (z : Told). z.cap) h;
-  unfailing = ap (λ (z : Told). z.unfailing) k ∙ ap (λ (z : Told). z.unfailing) h;
-}
+pub outside-taken : {old new : Told} {counts counts' : Counts} {before after : List ℕ} {reads was ended : Bool} {take : Take} → TakesPart old new counts counts' before after reads was ended take → SameOutside old new
+outside-taken k = record { arrived = ap (λ (z : Told). z.arrived) k.told'; cap = ap (λ (z : Told). z.cap) k.told'; unfailing = ap (λ (z : Told). z.unfailing) k.told' }
 
--- first a write and then a read
-pub outside-target : (old mid new : Told) (part part' : List ℕ) (ends shuts : Bool) → mid ≡ told_less old part shuts → new ≡ told_more mid part' ends → SameOutside old new
-outside-target old mid new part part' ends shuts h k = record {
-  arrived = ap (λ (z : Told). z.arrived) k ∙ ap (λ (z : Told). z.arrived) h;
-  cap = ap (λ (z : Told). z.cap) k ∙ ap (λ (z : Told). z.cap) h;
-  unfailing = ap (λ (z : Told). z.unfailing) k ∙ ap (λ (z : Told). z.unfailing) h;
-}
+pub outside-on : {old mid new : Told} → SameOutside old mid → SameOutside mid new → SameOutside old new
+outside-on h k = record { arrived = k.arrived ∙ h.arrived; cap = k.cap ∙ h.cap; unfailing = k.unfailing ∙ h.unfailing }
 
 -- fewer were sent than are owed
 pub short : (sent rest owed : List ℕ) → sent ++ rest ≡ owed → 0 < length rest → length sent < length owed

@@ -199,9 +199,9 @@ pub unsound-of : {old new : Told} {counts counts' : Counts} {before after pendin
     → is_sound give ≡ false → (new.unfailing ≡ false) × Rose counts.faults counts'.faults × ((0 < length k.rest) ⊎ ((ends ≡ true) × (shut ≡ false)))
 unsound-of {new = new} {counts = counts} {counts' = counts'} {gives = gives} {ends = ends} {shut = shut} {give = give} k h = unsound-by new counts counts' k.rest gives ends shut give h k.why
 
-pub left-of : {old new : Told} {counts counts' : Counts} {before after pending : List ℕ} {gives ends was shut : Bool} {give : Give} → (k : GivesPart old new counts counts' before after pending gives ends was shut give)
+pub unwritten-left : {old new : Told} {counts counts' : Counts} {before after pending : List ℕ} {gives ends was shut : Bool} {give : Give} → (k : GivesPart old new counts counts' before after pending gives ends was shut give)
     → is_unwritten give ≡ true → (0 < length k.rest) × (new.unfailing ≡ false)
-left-of {new = new} {counts = counts} {counts' = counts'} {gives = gives} {ends = ends} {shut = shut} {give = give} k h = unwritten-by new counts counts' k.rest gives ends shut give h k.why
+unwritten-left {new = new} {counts = counts} {counts' = counts'} {gives = gives} {ends = ends} {shut = shut} {give = give} k h = unwritten-by new counts counts' k.rest gives ends shut give h k.why
 
 pub sent-of : {old new : Told} {counts counts' : Counts} {before after pending : List ℕ} {gives ends was shut : Bool} {give : Give} → (k : GivesPart old new counts counts' before after pending gives ends was shut give)
     → gives ≡ true → is_sound give ≡ true → is_full give ≡ false → (k.rest ≡ []) × (ends ≡ true → shut ≡ true)
