@@ -5,6 +5,7 @@ pub mod LinksHeld
 pub mod PassLaws
 pub mod PlainRecords
 pub mod PreludeBytes
+pub mod RelayAnswers
 pub mod RelayCloses
 pub mod RelayEnds
 pub mod RelayRecords

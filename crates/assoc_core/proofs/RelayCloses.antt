@@ -35,13 +35,13 @@ use Rattle.assoc_core.proofs.RelaySums.{Sums, summed, Begun, sum_acts, relays}
 -- ---- what is pending of a record behind a relay's turn
 
 pending-c : (users : List User) (pubs : List Config) (old : Record) (at : Endpoint) (c t part_c rest_c part_t rest_t : List ℕ) (end_c end_t shut_c shut_t : Bool) (cause : Option Cause)
-    → InRelay users pubs old at c t part_c rest_c part_t rest_t end_c end_t shut_c shut_t
+    → InRelay old at c t part_c rest_c part_t rest_t end_c end_t shut_c shut_t
     → pending_to_client (socks users pubs) (summed old c t part_c part_t end_c end_t shut_c shut_t cause) ≡ rest_c
 pending-c users pubs old at c t part_c rest_c part_t rest_t end_c end_t shut_c shut_t cause k =
     drop-sent (old.sent_c ++ part_c) rest_c _ (owes-c users pubs old at c t part_c rest_c part_t rest_t end_c end_t shut_c shut_t cause k)
 
 pending-t : (users : List User) (pubs : List Config) (old : Record) (at : Endpoint) (c t part_c rest_c part_t rest_t : List ℕ) (end_c end_t shut_c shut_t : Bool) (cause : Option Cause)
-    → InRelay users pubs old at c t part_c rest_c part_t rest_t end_c end_t shut_c shut_t
+    → InRelay old at c t part_c rest_c part_t rest_t end_c end_t shut_c shut_t
     → pending_to_target (socks users pubs) (summed old c t part_c part_t end_c end_t shut_c shut_t cause) ≡ rest_t
 pending-t users pubs old at c t part_c rest_c part_t rest_t end_c end_t shut_c shut_t cause k =
     drop-sent (old.sent_t ++ part_t) rest_t _ (owes-t users pubs old at c t part_c rest_c part_t rest_t end_c end_t shut_c shut_t cause k)

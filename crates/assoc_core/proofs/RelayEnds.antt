@@ -94,7 +94,7 @@ drop-sent sent rest owed h = ap (drop (length sent)) (sym h) ∙ drop-append_sea
 -- ---- the relay in hand
 
 -- A turn of a relay in sums, in a context of the first path, where not both sides are shut.
-pub record InRelay (users : List User) (pubs : List Config) (old : Record) (at : Endpoint) (c t part_c rest_c part_t rest_t : List ℕ) (end_c end_t shut_c shut_t : Bool) : Type 0 where
+pub record InRelay (old : Record) (at : Endpoint) (c t part_c rest_c part_t rest_t : List ℕ) (end_c end_t shut_c shut_t : Bool) : Type 0 where
   pub begun : Begun old at
   pub sums : Sums old c t part_c rest_c part_t rest_t end_c end_t shut_c shut_t
   pub apart : (shut_c || old.shut_c) && (shut_t || old.shut_t) ≡ false
@@ -110,7 +110,7 @@ in-phase users pubs generation config cap h marks old at c t end_c end_t b =
     alike (socks users pubs) old (old.c ++ c) (old.t ++ t) end_c end_t f.direct (f.whole c) ∙ f.relays
 
 pub owes-c : (users : List User) (pubs : List Config) (old : Record) (at : Endpoint) (c t part_c rest_c part_t rest_t : List ℕ) (end_c end_t shut_c shut_t : Bool) (cause : Option Cause)
-    → InRelay users pubs old at c t part_c rest_c part_t rest_t end_c end_t shut_c shut_t
+    → InRelay old at c t part_c rest_c part_t rest_t end_c end_t shut_c shut_t
     → (old.sent_c ++ part_c) ++ rest_c ≡ owed_to_client (socks users pubs) (summed old c t part_c part_t end_c end_t shut_c shut_t cause)
 owes-c users pubs old at c t part_c rest_c part_t rest_t end_c end_t shut_c shut_t cause k =
     sent-c old at c t part_c rest_c part_t rest_t end_c end_t shut_c shut_t cause k.begun k.sums
@@ -118,7 +118,7 @@ owes-c users pubs old at c t part_c rest_c part_t rest_t end_c end_t shut_c shut
     (sums-carried old at c t part_c rest_c part_t rest_t end_c end_t shut_c shut_t cause k.begun k.sums k.apart))
 
 pub owes-t : (users : List User) (pubs : List Config) (old : Record) (at : Endpoint) (c t part_c rest_c part_t rest_t : List ℕ) (end_c end_t shut_c shut_t : Bool) (cause : Option Cause)
-    → InRelay users pubs old at c t part_c rest_c part_t rest_t end_c end_t shut_c shut_t
+    → InRelay old at c t part_c rest_c part_t rest_t end_c end_t shut_c shut_t
     → (old.sent_t ++ part_t) ++ rest_t ≡ owed_to_target (socks users pubs) (summed old c t part_c part_t end_c end_t shut_c shut_t cause)
 owes-t users pubs old at c t part_c rest_c part_t rest_t end_c end_t shut_c shut_t cause k =
     sent-t old at c t part_c rest_c part_t rest_t end_c end_t shut_c shut_t cause k.begun k.sums
@@ -129,7 +129,7 @@ owes-t users pubs old at c t part_c rest_c part_t rest_t end_c end_t shut_c shut
 
 pub goes-again : (users : List User) (pubs : List Config) (generation : ℕ) (config : Config) (cap : ℕ) (h : List Line) (marks : List StopBy) (worker number now : ℕ)
     (old : Record) (at : Endpoint) (c t part_c rest_c part_t rest_t : List ℕ) (end_c end_t shut_c shut_t idle_c idle_t full_c full_t : Bool)
-    → InRelay users pubs old at c t part_c rest_c part_t rest_t end_c end_t shut_c shut_t → old.since ≡ now
+    → InRelay old at c t part_c rest_c part_t rest_t end_c end_t shut_c shut_t → old.since ≡ now
     → nat_le quantum (length c) || nat_le quantum (length t) ≡ true
     → turn (context users pubs generation config cap h marks) (event_of worker number now (sum_acts c t part_c part_t end_c end_t shut_c shut_t idle_c idle_t full_c full_t) NextMark.Again) old
     ≡ Some (record { left = summed old c t part_c part_t end_c end_t shut_c shut_t old.cause; h = h; marks = marks })
@@ -166,7 +166,7 @@ pub record Resting (old : Record) (rest_c rest_t : List ℕ) (end_c end_t shut_c
 
 pub goes-waiting : (users : List User) (pubs : List Config) (generation : ℕ) (config : Config) (cap : ℕ) (h : List Line) (marks : List StopBy) (worker number now : ℕ)
     (old : Record) (at : Endpoint) (c t part_c rest_c part_t rest_t : List ℕ) (end_c end_t shut_c shut_t idle_c idle_t full_c full_t : Bool)
-    → InRelay users pubs old at c t part_c rest_c part_t rest_t end_c end_t shut_c shut_t → IsPlain config → old.since ≡ now
+    → InRelay old at c t part_c rest_c part_t rest_t end_c end_t shut_c shut_t → IsPlain config → old.since ≡ now
     → nat_le quantum (length c) || nat_le quantum (length t) ≡ false → Resting old rest_c rest_t end_c end_t shut_c shut_t idle_c idle_t full_c full_t
     → turn (context users pubs generation config cap h marks) (event_of worker number now (sum_acts c t part_c part_t end_c end_t shut_c shut_t idle_c idle_t full_c full_t) NextMark.Wait) old
     ≡ Some (record { left = summed old c t part_c part_t end_c end_t shut_c shut_t old.cause; h = h; marks = marks })
@@ -289,8 +289,8 @@ FailsOn Object.Target old rest_c rest_t ended_c ended_t = FailsSide ended_t rest
 FailsOn _ old rest_c rest_t ended_c ended_t = ⊥
 
 -- a turn of a relay in which a call failed
-pub record InFault (users : List User) (pubs : List Config) (old : Record) (at : Endpoint) (c t part_c rest_c part_t rest_t : List ℕ) (end_c end_t shut_c shut_t : Bool) (o : Object) (unwritten : Bool) : Type 0 where
-  pub relay : InRelay users pubs old at c t part_c rest_c part_t rest_t end_c end_t shut_c shut_t
+pub record InFault (old : Record) (at : Endpoint) (c t part_c rest_c part_t rest_t : List ℕ) (end_c end_t shut_c shut_t : Bool) (o : Object) (unwritten : Bool) : Type 0 where
+  pub relay : InRelay old at c t part_c rest_c part_t rest_t end_c end_t shut_c shut_t
   pub fails : FailsOn o old rest_c rest_t (end_c || old.end_c) (end_t || old.end_t)
   pub writes : unwritten ≡ true → (0 < length rest_c) ⊎ (0 < length rest_t)
 
@@ -303,7 +303,7 @@ pub record Failed (s : Context) (old : Record) (e : TurnEvent) (a x : Record) (c
 
 pub fails : (users : List User) (pubs : List Config) (generation : ℕ) (config : Config) (cap : ℕ) (h : List Line) (marks : List StopBy) (worker number now : ℕ)
     (old : Record) (at : Endpoint) (c t part_c rest_c part_t rest_t : List ℕ) (end_c end_t shut_c shut_t idle_c idle_t full_c full_t : Bool) (o : Object) (unwritten : Bool)
-    → InFault users pubs old at c t part_c rest_c part_t rest_t end_c end_t shut_c shut_t o unwritten
+    → InFault old at c t part_c rest_c part_t rest_t end_c end_t shut_c shut_t o unwritten
     → Failed (context users pubs generation config cap h marks) old
     (event_of worker number now (fault_acts (sum_acts c t part_c part_t end_c end_t shut_c shut_t idle_c idle_t full_c full_t) o unwritten Outer.Nothing) NextMark.Going)
     (relayed old c t end_c end_t) (summed old c t part_c part_t end_c end_t shut_c shut_t (Some (fault_cause o))) (fault_cause o)
