@@ -20,7 +20,7 @@ use Rattle.socks_machine.specs.Calls.{Context, call_close, close_line, cause_of_
 use Rattle.socks_machine.specs.History.{at_close}
 use Rattle.socks_machine.specs.Phase.{is_udp}
 use Rattle.socks_machine.specs.Settle.{is_nothing}
-use Rattle.socks_machine.specs.Turn.{turn, marked, quantum, fault_cause}
+use Rattle.socks_machine.specs.Turn.{turn, marked, quantum, fault_cause, is_quiet}
 use Rattle.assoc_core.specs.declared.assoc.Assoc.{Assoc}
 use Rattle.assoc_core.specs.declared.assoc.Ended.{Ended}
 use Rattle.assoc_core.specs.declared.assoc.Next.{Next}
@@ -34,6 +34,7 @@ use Rattle.assoc_core.specs.Stands.{Stands}
 use Rattle.assoc_core.specs.Turns.{event_of, context, Turns, GoesOn, left_of, mark_of}
 use Rattle.assoc_core.proofs.PassLaws.{ended-of, idle-of, unread-of, source-of, end-of, full-of, unsound-of, unwritten-left, sent-of, nothing-of, FaultTells, fault-tells, sound-written}
 use Rattle.assoc_core.proofs.RelayEnds.{InRelay, InFault, FailsSide, FailsOn, Resting, goes-again, goes-waiting, Failed, fails, fault_acts, both, some-left}
+use Rattle.assoc_core.proofs.RelayCloses.{closes-with, pending-none}
 use Rattle.assoc_core.proofs.RelayRecords.{is-relayed, plain-tcp}
 use Rattle.assoc_core.proofs.RelaySums.{clash, Sums, summed, Begun, sum_acts, shut-c, shut-t, sums-carried}
 use Rattle.assoc_core.proofs.RelayTurns.{RelayTurn, pass_acts, pass_leaves, pass-sums, pass-leaves, relay-turns}
@@ -141,3 +142,119 @@ relay-again told counts stands users pubs generation config cap h marks now net 
 
     leaves : mid.state ≡ pass_leaves told counts a (Next.Again mid) pass k a.state.cause
     leaves = m ∙ pass-leaves _ _ _ _ _ _ a.state k.new pass k.passes
+
+or-no : (a b : Bool) → a || b ≡ false → (a ≡ false) × (b ≡ false)
+or-no true b h = absurd (cc)
+or-no false b h = (refl, h)
+
+sink : (nothing full : Bool) → nothing ≡ not full → nothing || full ≡ true
+sink nothing true h = ap (λ b. b || true) h
+sink nothing false h = ap (λ b. b || false) h
+
+side : (end shut nothing full : Bool) → nothing ≡ not full → (full ≡ false → end ≡ true → shut ≡ true) → end && not shut && nothing ≡ false
+side false shut nothing full h f = refl
+side true true nothing full h f = refl
+side true false nothing true h f = h
+side true false nothing false h f = absurd (clash false (f refl refl) refl)
+
+pub relay-waits : {L : Type 0} (told : L → Told) (counts : L → Counts) (stands : List Line → List StopBy → Type 0)
+    (users : List User) (pubs : List Config) (generation : ℕ) (config : Config) (cap : ℕ) (h : List Line) (marks : List StopBy) (now : ℕ) (net : NetTold)
+    (a mid : Assoc L) (pass : Pass) (k : RelayTurn told counts a (Next.Wait mid) pass) → fault_of pass ≡ None → unwritten_of pass ≡ false → mid.state ≡ k.new
+    → IsPlain config → a.state.since ≡ now → (k.new.shut_c ≡ true → k.new.shut_t ≡ true → ⊥) → took_quantum pass ≡ false → stands h marks
+    → Turns told counts stands (context users pubs generation config cap h marks) now net net a (Next.Wait mid)
+relay-waits told counts stands users pubs generation config cap h marks now net a mid pass k none written m config-plain same unshut took desked =
+    relay-turns told counts stands users pubs generation config cap h marks now net a (Next.Wait mid) pass k None false Outer.Nothing a.state.cause a.state.at_close a.state.done h marks none written tt
+    (λ worker. goes-waiting users pubs generation config cap h marks worker a.state.number now a.state k.at _ _ _ _ _ _ _ _ _ _ _ _ _ _ relay config-plain same (quantum-of told counts a (Next.Wait mid) pass k ∙ took) resting)
+    leaves desked (subst IsPlainRecord (sym leaves) (sums-carried a.state k.at _ _ _ _ _ _ _ _ _ _ a.state.cause k.begun relay.sums relay.apart))
+  where
+    relay : InRelay a.state k.at k.passes.takes_c.part k.passes.takes_t.part k.passes.gives_c.part k.passes.gives_c.rest k.passes.gives_t.part k.passes.gives_t.rest
+        k.passes.takes_c.ends k.passes.takes_t.ends k.passes.gives_c.shuts k.passes.gives_t.shuts
+    relay = apart-by told counts a (Next.Wait mid) pass k unshut
+
+    leaves : mid.state ≡ pass_leaves told counts a (Next.Wait mid) pass k a.state.cause
+    leaves = m ∙ pass-leaves _ _ _ _ _ _ a.state k.new pass k.passes
+
+    fine : (is_read pass.took_c ≡ true) × (is_sound pass.gave_t ≡ true) × (is_read pass.took_t ≡ true) × (is_sound pass.gave_c ≡ true)
+    fine = tells-of pass None none
+
+    quanta : (is_quantum pass.took_c ≡ false) × (is_quantum pass.took_t ≡ false)
+    quanta = or-no (is_quantum pass.took_c) (is_quantum pass.took_t) took
+
+    reads_t : is_read pass.took_c && is_sound pass.gave_t ≡ true
+    reads_t = both _ _ fine.0 fine.1
+
+    nothing_c : is_nothing k.passes.gives_c.rest ≡ not (is_full pass.gave_c)
+    nothing_c = nothing-of k.passes.gives_c fine.0 (sound-written pass.gave_c fine.3)
+
+    nothing_t : is_nothing k.passes.gives_t.rest ≡ not (is_full pass.gave_t)
+    nothing_t = nothing-of k.passes.gives_t fine.0 (sound-written pass.gave_t fine.1)
+
+    resting : Resting a.state k.passes.gives_c.rest k.passes.gives_t.rest k.passes.takes_c.ends k.passes.takes_t.ends k.passes.gives_c.shuts k.passes.gives_t.shuts
+        (is_idle pass.took_c) (is_idle pass.took_t) (is_full pass.gave_c) (is_full pass.gave_t)
+    resting = record {
+      source_c = ap (λ b. b || is_idle pass.took_c) (sym k.passes.takes_c.ended') ∙ source-of k.passes.takes_c refl fine.0 quanta.0;
+      source_t = ap (λ b. b || is_idle pass.took_t) (sym k.passes.takes_t.ended') ∙ source-of k.passes.takes_t reads_t fine.2 quanta.1;
+      sink_c = sink (is_nothing k.passes.gives_c.rest) (is_full pass.gave_c) nothing_c;
+      sink_t = sink (is_nothing k.passes.gives_t.rest) (is_full pass.gave_t) nothing_t;
+      side_c = side _ _ _ (is_full pass.gave_c) nothing_c
+          (λ full e. sym k.passes.gives_c.shut' ∙ (sent-of k.passes.gives_c fine.0 fine.3 full).1 (end-of k.passes.takes_t reads_t (k.passes.takes_t.ended' ∙ e)));
+      side_t = side _ _ _ (is_full pass.gave_t) nothing_t
+          (λ full e. sym k.passes.gives_t.shut' ∙ (sent-of k.passes.gives_t fine.0 fine.1 full).1 (end-of k.passes.takes_c refl (k.passes.takes_c.ended' ∙ e)));
+    }
+
+-- ---- a failed call
+
+was-open : (shuts was : Bool) → shuts || was ≡ false → was ≡ false
+was-open true was h = cc
+was-open false was h = h
+
+side-fails : (ended other was shuts shut : Bool) (rest : List ℕ) (ends : Bool) → shut ≡ shuts || was → (ends ≡ true → other ≡ true) → (0 < length rest) ⊎ ((ends ≡ true) × (shut ≡ false)) → FailsSide ended rest other was
+side-fails ended other was shuts shut rest ends e f (inl h) = FailsSide.unsent h
+side-fails ended other was shuts shut rest ends e f (inr h) = FailsSide.unshut (f h.0) (was-open shuts was (sym e ∙ h.1))
+
+pub in-fault : {L : Type 0} (told : L → Told) (counts : L → Counts) (a : Assoc L) (next : Next L) (pass : Pass) (k : RelayTurn told counts a next pass) (o : Object) → fault_of pass ≡ Some o
+    → InFault a.state k.at k.passes.takes_c.part k.passes.takes_t.part k.passes.gives_c.part k.passes.gives_c.rest k.passes.gives_t.part k.passes.gives_t.rest
+    k.passes.takes_c.ends k.passes.takes_t.ends k.passes.gives_c.shuts k.passes.gives_t.shuts o (unwritten_of pass)
+in-fault told counts a next pass k o h = record {
+  relay = apart-by told counts a next pass k (fault-apart told counts a next pass k o (tells-of pass (Some o) h));
+  fails = fails-on o (tells-of pass (Some o) h);
+  writes = λ e. by-write (is_unwritten pass.gave_t) (is_unwritten pass.gave_c) refl refl e;
+}
+  where
+    end_t : has_ended pass.took_t ≡ true → k.passes.takes_t.ends || a.state.end_t ≡ true
+    end_t e = sym k.passes.takes_t.ended' ∙ ended-of k.passes.takes_t e
+
+    end_c : has_ended pass.took_c ≡ true → k.passes.takes_c.ends || a.state.end_c ≡ true
+    end_c e = sym k.passes.takes_c.ended' ∙ ended-of k.passes.takes_c e
+
+    fails-on : (o : Object) → FaultTells (Some o) (is_read pass.took_c) (is_sound pass.gave_t) (is_read pass.took_t) (is_sound pass.gave_c)
+        → FailsOn o a.state k.passes.gives_c.rest k.passes.gives_t.rest (k.passes.takes_c.ends || a.state.end_c) (k.passes.takes_t.ends || a.state.end_t)
+    fails-on Object.Client (inl e) = FailsSide.unread (sym k.passes.takes_c.ended' ∙ (unread-of k.passes.takes_c e).0)
+    fails-on Object.Client (inr e) = side-fails _ _ a.state.shut_c k.passes.gives_c.shuts k.new.shut_c k.passes.gives_c.rest (has_ended pass.took_t) k.passes.gives_c.shut' end_t (unsound-of k.passes.gives_c e.3).2
+    fails-on Object.Target (rc, inl e) = side-fails _ _ a.state.shut_t k.passes.gives_t.shuts k.new.shut_t k.passes.gives_t.rest (has_ended pass.took_c) k.passes.gives_t.shut' end_c (unsound-of k.passes.gives_t e).2
+    fails-on Object.Target (rc, inr e) = FailsSide.unread (sym k.passes.takes_t.ended' ∙ (unread-of k.passes.takes_t e.1).0)
+    fails-on Object.Door f = f
+    fails-on Object.Port f = f
+
+    by-write : (t c : Bool) → is_unwritten pass.gave_t ≡ t → is_unwritten pass.gave_c ≡ c → is_unwritten pass.gave_t || is_unwritten pass.gave_c ≡ true
+        → (0 < length k.passes.gives_c.rest) ⊎ (0 < length k.passes.gives_t.rest)
+    by-write true c t' c' e = inr (unwritten-left k.passes.gives_t t').0
+    by-write false true t' c' e = inl (unwritten-left k.passes.gives_c c').0
+    by-write false false t' c' e = absurd (clash (is_unwritten pass.gave_t || is_unwritten pass.gave_c) e (rw (t', c') refl))
+
+-- where a call failed, and it has nothing more to do, it closes
+pub fault-closes : {L : Type 0} (told : L → Told) (counts : L → Counts) (stands : List Line → List StopBy → Type 0)
+    (users : List User) (pubs : List Config) (generation : ℕ) (config : Config) (cap : ℕ) (h : List Line) (marks : List StopBy) (now : ℕ) (net : NetTold)
+    (a mid : Assoc L) (e : Ended L) (pass : Pass) (k : RelayTurn told counts a (Next.Done e) pass) (o : Object)
+    → fault_of pass ≡ Some o → mid.state ≡ k.new → Closed stands h marks (fault_cause o) mid e → a.state.since ≡ now
+    → (is_nothing k.passes.gives_c.rest && is_nothing k.passes.gives_t.rest) || unwritten_of pass || is_quiet (Some (fault_cause o)) ≡ true
+    → Turns told counts stands (context users pubs generation config cap h marks) now net net a (Next.Done e)
+fault-closes told counts stands users pubs generation config cap h marks now net a mid e pass k o is_fault m closed same due =
+    relay-closes told counts stands users pubs generation config cap h marks now net a mid e pass k (Some o) (unwritten_of pass) (fault_cause o) is_fault refl m closed
+    (λ worker logged. let f = fails users pubs generation config cap h marks worker a.state.number now a.state k.at _ _ _ _ _ _ _ _ _ _ (is_idle pass.took_c) (is_idle pass.took_t) (is_full pass.gave_c) (is_full pass.gave_t) o (unwritten_of pass) fault in
+    closes-with (context users pubs generation config cap h marks) a.state worker a.state.number now _ _ _ _ (fault_cause o) logged f.turned (ap (λ p. is_calling p None) f.relays') f.fits same refl f.opened'
+    (ap (λ b. b || unwritten_of pass || is_quiet (Some (fault_cause o))) (pending-none users pubs a.state k.at _ _ _ _ _ _ _ _ _ _ (Some (fault_cause o)) fault.relay) ∙ due))
+  where
+    fault : InFault a.state k.at k.passes.takes_c.part k.passes.takes_t.part k.passes.gives_c.part k.passes.gives_c.rest k.passes.gives_t.part k.passes.gives_t.rest
+        k.passes.takes_c.ends k.passes.takes_t.ends k.passes.gives_c.shuts k.passes.gives_t.shuts o (unwritten_of pass)
+    fault = in-fault told counts a (Next.Done e) pass k o is_fault

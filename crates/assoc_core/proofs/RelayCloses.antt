@@ -152,3 +152,9 @@ rests-with s old worker number now acts a d x cause next h calls_none fits same 
     answer : answer_after s e x Calling.NoCall ≡ Some next
     answer = ap (λ b. if b then Some NextMark.Done else (if took_quantum e then Some NextMark.Again else (if rests s.basis e x && not (close_is_due s e x) && not (times_out s e x) then Some NextMark.Wait else None))) (unopened x fixed opened')
         ∙ by-rest (took_quantum e) refl is
+
+pub pending-none : (users : List User) (pubs : List Config) (old : Record) (at : Endpoint) (c t part_c rest_c part_t rest_t : List ℕ) (end_c end_t shut_c shut_t : Bool) (cause : Option Cause)
+    → InRelay old at c t part_c rest_c part_t rest_t end_c end_t shut_c shut_t
+    → nothing_pending (socks users pubs) (summed old c t part_c part_t end_c end_t shut_c shut_t cause) ≡ is_nothing rest_c && is_nothing rest_t
+pending-none users pubs old at c t part_c rest_c part_t rest_t end_c end_t shut_c shut_t cause k =
+    λ i. is_nothing (pending-c users pubs old at c t part_c rest_c part_t rest_t end_c end_t shut_c shut_t cause k i) && is_nothing (pending-t users pubs old at c t part_c rest_c part_t rest_t end_c end_t shut_c shut_t cause k i)
