@@ -19,6 +19,7 @@ use Rattle.socks_machine.specs.declared.world.Outer.{Outer}
 use Rattle.socks_machine.specs.Calls.{Context, call_close, close_line, cause_of_shut, is_calling}
 use Rattle.socks_machine.specs.History.{at_close}
 use Rattle.socks_machine.specs.Phase.{is_udp}
+use Rattle.socks_machine.specs.Relaying.{relayed}
 use Rattle.socks_machine.specs.Settle.{is_nothing}
 use Rattle.socks_machine.specs.Turn.{turn, marked, quantum, fault_cause, is_quiet}
 use Rattle.assoc_core.specs.declared.assoc.Assoc.{Assoc}
@@ -34,7 +35,7 @@ use Rattle.assoc_core.specs.Stands.{Stands}
 use Rattle.assoc_core.specs.Turns.{event_of, context, Turns, GoesOn, left_of, mark_of}
 use Rattle.assoc_core.proofs.PassLaws.{ended-of, idle-of, unread-of, source-of, end-of, full-of, unsound-of, unwritten-left, sent-of, nothing-of, FaultTells, fault-tells, sound-written}
 use Rattle.assoc_core.proofs.RelayEnds.{InRelay, InFault, FailsSide, FailsOn, Resting, goes-again, goes-waiting, Failed, fails, fault_acts, both, some-left}
-use Rattle.assoc_core.proofs.RelayCloses.{closes-with, pending-none}
+use Rattle.assoc_core.proofs.RelayCloses.{closes-with, rests-with, pending-none, sinks-by, finishes}
 use Rattle.assoc_core.proofs.RelayRecords.{is-relayed, plain-tcp}
 use Rattle.assoc_core.proofs.RelaySums.{clash, Sums, summed, Begun, sum_acts, shut-c, shut-t, sums-carried}
 use Rattle.assoc_core.proofs.RelayTurns.{RelayTurn, pass_acts, pass_leaves, pass-sums, pass-leaves, relay-turns}
@@ -258,3 +259,100 @@ fault-closes told counts stands users pubs generation config cap h marks now net
     fault : InFault a.state k.at k.passes.takes_c.part k.passes.takes_t.part k.passes.gives_c.part k.passes.gives_c.rest k.passes.gives_t.part k.passes.gives_t.rest
         k.passes.takes_c.ends k.passes.takes_t.ends k.passes.gives_c.shuts k.passes.gives_t.shuts o (unwritten_of pass)
     fault = in-fault told counts a (Next.Done e) pass k o is_fault
+
+-- what a call of the target's failed on is still sent to the client
+fault-rests : {L : Type 0} (told : L → Told) (counts : L → Counts)
+    (users : List User) (pubs : List Config) (generation : ℕ) (config : Config) (cap : ℕ) (h : List Line) (marks : List StopBy) (now : ℕ) (worker : ℕ)
+    (a : Assoc L) (next : Next L) (pass : Pass) (k : RelayTurn told counts a next pass) → fault_of pass ≡ Some Object.Target → unwritten_of pass ≡ false → has_pending pass ≡ true
+    → IsPlain config → a.state.since ≡ now → mark_of next ≡ (if took_quantum pass then NextMark.Again else NextMark.Wait)
+    → turn (context users pubs generation config cap h marks)
+    (event_of worker a.state.number now (record (pass_acts told counts a next pass k) { fault = Some Object.Target; unwritten = unwritten_of pass; outer = Outer.Nothing }) (mark_of next)) a.state
+    ≡ Some (record { left = pass_leaves told counts a next pass k (Some Cause.TargetFault); h = h; marks = marks })
+fault-rests told counts users pubs generation config cap h marks now worker a next pass k is_fault written pending config-plain same mark =
+    rests-with (context users pubs generation config cap h marks) a.state worker a.state.number now
+    (fault_acts (pass_acts told counts a next pass k) Object.Target (unwritten_of pass) Outer.Nothing) _ _ _ Cause.TargetFault (mark_of next) f.turned (ap (λ p. is_calling p None) f.relays') f.fits same refl
+    k.begun.plain.undone refl f.opened' config-plain
+    (ap (λ b. b || unwritten_of pass || false) (pending-none users pubs a.state k.at _ _ _ _ _ _ _ _ _ _ (Some Cause.TargetFault) fault.relay)
+    ∙ (ap (λ b. (is_nothing k.passes.gives_c.rest && is_nothing k.passes.gives_t.rest) || b || false) written
+    ∙ ((λ i. (nothing_c i && nothing_t i) || false || false) ∙ undue (is_full pass.gave_c) (is_full pass.gave_t) pending)))
+    (sinks-by users pubs a.state k.at _ _ _ _ _ _ _ _ _ _ (Some Cause.TargetFault) (is_full pass.gave_c) (is_full pass.gave_t)
+    (event_of worker a.state.number now (fault_acts (pass_acts told counts a next pass k) Object.Target (unwritten_of pass) Outer.Nothing) NextMark.Going) refl fault.relay
+    (sink (is_nothing k.passes.gives_c.rest) (is_full pass.gave_c) nothing_c) (sink (is_nothing k.passes.gives_t.rest) (is_full pass.gave_t) nothing_t))
+    (mark ∙ by-quantum (took_quantum pass) _ (quantum-of told counts a next pass k))
+  where
+    fault : InFault a.state k.at k.passes.takes_c.part k.passes.takes_t.part k.passes.gives_c.part k.passes.gives_c.rest k.passes.gives_t.part k.passes.gives_t.rest
+        k.passes.takes_c.ends k.passes.takes_t.ends k.passes.gives_c.shuts k.passes.gives_t.shuts Object.Target (unwritten_of pass)
+    fault = in-fault told counts a next pass k Object.Target is_fault
+
+    f : Failed (context users pubs generation config cap h marks) a.state
+        (event_of worker a.state.number now (fault_acts (pass_acts told counts a next pass k) Object.Target (unwritten_of pass) Outer.Nothing) NextMark.Going)
+        (relayed a.state k.passes.takes_c.part k.passes.takes_t.part k.passes.takes_c.ends k.passes.takes_t.ends) (pass_leaves told counts a next pass k (Some Cause.TargetFault)) Cause.TargetFault
+    f = fails users pubs generation config cap h marks worker a.state.number now a.state k.at _ _ _ _ _ _ _ _ _ _ (is_idle pass.took_c) (is_idle pass.took_t) (is_full pass.gave_c) (is_full pass.gave_t) Object.Target (unwritten_of pass) fault
+
+    read_c : is_read pass.took_c ≡ true
+    read_c = (tells-of pass (Some Object.Target) is_fault).0
+
+    unwritten : (is_unwritten pass.gave_t ≡ false) × (is_unwritten pass.gave_c ≡ false)
+    unwritten = or-no (is_unwritten pass.gave_t) (is_unwritten pass.gave_c) written
+
+    nothing_c : is_nothing k.passes.gives_c.rest ≡ not (is_full pass.gave_c)
+    nothing_c = nothing-of k.passes.gives_c read_c unwritten.1
+
+    nothing_t : is_nothing k.passes.gives_t.rest ≡ not (is_full pass.gave_t)
+    nothing_t = nothing-of k.passes.gives_t read_c unwritten.0
+
+    undue : (c t : Bool) → t || c ≡ true → (not c && not t) || false || false ≡ false
+    undue true t h = refl
+    undue false true h = refl
+    undue false false h = absurd (cc)
+
+    by-quantum : (b c : Bool) → c ≡ b → (if b then NextMark.Again else NextMark.Wait) ≡ (if c || false then NextMark.Again else NextMark.Wait)
+    by-quantum b true h = ap (λ z. if z then NextMark.Again else NextMark.Wait) (sym h)
+    by-quantum b false h = ap (λ z. if z then NextMark.Again else NextMark.Wait) (sym h)
+
+pub fault-waits : {L : Type 0} (told : L → Told) (counts : L → Counts) (stands : List Line → List StopBy → Type 0)
+    (users : List User) (pubs : List Config) (generation : ℕ) (config : Config) (cap : ℕ) (h : List Line) (marks : List StopBy) (now : ℕ) (net : NetTold)
+    (a mid : Assoc L) (pass : Pass) (k : RelayTurn told counts a (Next.Wait mid) pass) → fault_of pass ≡ Some Object.Target → unwritten_of pass ≡ false → has_pending pass ≡ true
+    → mid.state ≡ record k.new { cause = Some Cause.TargetFault } → IsPlain config → a.state.since ≡ now → took_quantum pass ≡ false → stands h marks
+    → Turns told counts stands (context users pubs generation config cap h marks) now net net a (Next.Wait mid)
+fault-waits told counts stands users pubs generation config cap h marks now net a mid pass k is_fault written pending m config-plain same took desked =
+    relay-turns told counts stands users pubs generation config cap h marks now net a (Next.Wait mid) pass k (Some Object.Target) (unwritten_of pass) Outer.Nothing (Some Cause.TargetFault) a.state.at_close a.state.done h marks is_fault refl tt
+    (λ worker. fault-rests told counts users pubs generation config cap h marks now worker a (Next.Wait mid) pass k is_fault written pending config-plain same (ap (λ b. if b then NextMark.Again else NextMark.Wait) (sym took)))
+    leaves desked (subst IsPlainRecord (sym leaves) (sums-carried a.state k.at _ _ _ _ _ _ _ _ _ _ (Some Cause.TargetFault) k.begun relay.sums relay.apart))
+  where
+    relay : InRelay a.state k.at k.passes.takes_c.part k.passes.takes_t.part k.passes.gives_c.part k.passes.gives_c.rest k.passes.gives_t.part k.passes.gives_t.rest
+        k.passes.takes_c.ends k.passes.takes_t.ends k.passes.gives_c.shuts k.passes.gives_t.shuts
+    relay = (in-fault told counts a (Next.Wait mid) pass k Object.Target is_fault).relay
+
+    leaves : mid.state ≡ pass_leaves told counts a (Next.Wait mid) pass k (Some Cause.TargetFault)
+    leaves = m ∙ ap (λ (z : Record). let y : Record = record z { cause = Some Cause.TargetFault } in y) (pass-leaves _ _ _ _ _ _ a.state k.new pass k.passes)
+
+pub fault-again : {L : Type 0} (told : L → Told) (counts : L → Counts) (stands : List Line → List StopBy → Type 0)
+    (users : List User) (pubs : List Config) (generation : ℕ) (config : Config) (cap : ℕ) (h : List Line) (marks : List StopBy) (now : ℕ) (net : NetTold)
+    (a mid : Assoc L) (pass : Pass) (k : RelayTurn told counts a (Next.Again mid) pass) → fault_of pass ≡ Some Object.Target → unwritten_of pass ≡ false → has_pending pass ≡ true
+    → mid.state ≡ record k.new { cause = Some Cause.TargetFault } → IsPlain config → a.state.since ≡ now → took_quantum pass ≡ true → stands h marks
+    → Turns told counts stands (context users pubs generation config cap h marks) now net net a (Next.Again mid)
+fault-again told counts stands users pubs generation config cap h marks now net a mid pass k is_fault written pending m config-plain same took desked =
+    relay-turns told counts stands users pubs generation config cap h marks now net a (Next.Again mid) pass k (Some Object.Target) (unwritten_of pass) Outer.Nothing (Some Cause.TargetFault) a.state.at_close a.state.done h marks is_fault refl tt
+    (λ worker. fault-rests told counts users pubs generation config cap h marks now worker a (Next.Again mid) pass k is_fault written pending config-plain same (ap (λ b. if b then NextMark.Again else NextMark.Wait) (sym took)))
+    leaves desked (subst IsPlainRecord (sym leaves) (sums-carried a.state k.at _ _ _ _ _ _ _ _ _ _ (Some Cause.TargetFault) k.begun relay.sums relay.apart))
+  where
+    relay : InRelay a.state k.at k.passes.takes_c.part k.passes.takes_t.part k.passes.gives_c.part k.passes.gives_c.rest k.passes.gives_t.part k.passes.gives_t.rest
+        k.passes.takes_c.ends k.passes.takes_t.ends k.passes.gives_c.shuts k.passes.gives_t.shuts
+    relay = (in-fault told counts a (Next.Again mid) pass k Object.Target is_fault).relay
+
+    leaves : mid.state ≡ pass_leaves told counts a (Next.Again mid) pass k (Some Cause.TargetFault)
+    leaves = m ∙ ap (λ (z : Record). let y : Record = record z { cause = Some Cause.TargetFault } in y) (pass-leaves _ _ _ _ _ _ a.state k.new pass k.passes)
+
+-- ---- both sides are shut
+
+pub relay-finishes : {L : Type 0} (told : L → Told) (counts : L → Counts) (stands : List Line → List StopBy → Type 0)
+    (users : List User) (pubs : List Config) (generation : ℕ) (config : Config) (cap : ℕ) (h : List Line) (marks : List StopBy) (now : ℕ) (net : NetTold)
+    (a mid : Assoc L) (e : Ended L) (pass : Pass) (k : RelayTurn told counts a (Next.Done e) pass)
+    → fault_of pass ≡ None → unwritten_of pass ≡ false → mid.state ≡ k.new → Closed stands h marks Cause.Finished mid e → a.state.since ≡ now
+    → k.new.shut_c ≡ true → k.new.shut_t ≡ true
+    → Turns told counts stands (context users pubs generation config cap h marks) now net net a (Next.Done e)
+relay-finishes told counts stands users pubs generation config cap h marks now net a mid e pass k none written m closed same both_c both_t =
+    relay-closes told counts stands users pubs generation config cap h marks now net a mid e pass k None false Cause.Finished none written m closed
+    (λ worker logged. finishes users pubs generation config cap h marks worker a.state.number now a.state k.at _ _ _ _ _ _ _ _ _ _ (is_idle pass.took_c) (is_idle pass.took_t) (is_full pass.gave_c) (is_full pass.gave_t) logged
+    k.begun (pass-sums _ _ _ _ _ _ a.state k.new pass k.passes) same (sym k.passes.gives_c.shut' ∙ both_c) (sym k.passes.gives_t.shut' ∙ both_t))

@@ -30,7 +30,8 @@ use Rattle.socks_machine.proofs.StartLaws.{relay-finish-c, relay-finish-t}
 use Rattle.assoc_core.specs.Turns.{Acts, event_of, context, links}
 use Rattle.assoc_core.proofs.PlainRecords.{closing-phase}
 use Rattle.assoc_core.proofs.RelayEnds.{aged-same, never-late, InRelay, InFault, Failed, fails, fault_acts, desk_acts, owes-c, owes-t, drop-sent, idle-c, idle-t, both, opened-by, in-phase}
-use Rattle.assoc_core.proofs.RelaySums.{Sums, summed, Begun, sum_acts, relays}
+use Rattle.assoc_core.proofs.RelayRecords.{is-relayed, plain-relay-facts}
+use Rattle.assoc_core.proofs.RelaySums.{Sums, summed, Begun, sum_acts, relays, shut-c, shut-t, all-sent, clash}
 
 -- ---- what is pending of a record behind a relay's turn
 
@@ -158,3 +159,146 @@ pub pending-none : (users : List User) (pubs : List Config) (old : Record) (at :
     → nothing_pending (socks users pubs) (summed old c t part_c part_t end_c end_t shut_c shut_t cause) ≡ is_nothing rest_c && is_nothing rest_t
 pending-none users pubs old at c t part_c rest_c part_t rest_t end_c end_t shut_c shut_t cause k =
     λ i. is_nothing (pending-c users pubs old at c t part_c rest_c part_t rest_t end_c end_t shut_c shut_t cause k i) && is_nothing (pending-t users pubs old at c t part_c rest_c part_t rest_t end_c end_t shut_c shut_t cause k i)
+
+pub sinks-by : (users : List User) (pubs : List Config) (old : Record) (at : Endpoint) (c t part_c rest_c part_t rest_t : List ℕ) (end_c end_t shut_c shut_t : Bool) (cause : Option Cause)
+    (full_c full_t : Bool) (e : TurnEvent) → e.full ≡ links full_c full_t → InRelay old at c t part_c rest_c part_t rest_t end_c end_t shut_c shut_t
+    → is_nothing rest_c || full_c ≡ true → is_nothing rest_t || full_t ≡ true → sinks_rest (socks users pubs) e (summed old c t part_c part_t end_c end_t shut_c shut_t cause) ≡ true
+sinks-by users pubs old at c t part_c rest_c part_t rest_t end_c end_t shut_c shut_t cause full_c full_t e full k sink_c sink_t =
+    both _ _ (ap (λ z. is_nothing z || holds Object.Client e.full) (pending-c users pubs old at c t part_c rest_c part_t rest_t end_c end_t shut_c shut_t cause k)
+    ∙ (ap (λ z. is_nothing rest_c || holds Object.Client z) full ∙ (ap (λ b. is_nothing rest_c || b) (idle-c full_c full_t) ∙ sink_c)))
+    (ap (λ z. is_nothing z || holds Object.Target e.full) (pending-t users pubs old at c t part_c rest_c part_t rest_t end_c end_t shut_c shut_t cause k)
+    ∙ (ap (λ z. is_nothing rest_t || holds Object.Target z) full ∙ (ap (λ b. is_nothing rest_t || b) (idle-t full_c full_t) ∙ sink_t)))
+
+-- ---- both sides are shut
+
+-- where a turn shuts the last side, it closes
+abbrev Finishes : List User → List Config → ℕ → Config → ℕ → List Line → List StopBy → ℕ → ℕ → ℕ → Record → List ℕ → List ℕ → List ℕ → List ℕ → Bool → Bool → Bool → Bool → Bool → Bool → Bool → Bool → Bool → Type 0
+Finishes users pubs generation config cap h marks worker number now old c t part_c part_t end_c end_t shut_c shut_t idle_c idle_t full_c full_t logged =
+    turn (context users pubs generation config cap h marks)
+    (event_of worker number now (desk_acts (sum_acts c t part_c part_t end_c end_t shut_c shut_t idle_c idle_t full_c full_t) (Outer.Desk logged)) NextMark.Done) old
+    ≡ Some (marked NextMark.Done (call_close h marks (summed old c t part_c part_t end_c end_t shut_c shut_t (Some Cause.Finished)) Cause.Finished logged))
+
+sends-rest-c : (users : List User) (pubs : List Config) (generation : ℕ) (config : Config) (cap : ℕ) (h : List Line) (marks : List StopBy)
+    (old : Record) (at : Endpoint) (c t part_c rest_c part_t rest_t : List ℕ) (end_c end_t shut_c shut_t : Bool) → InRelay old at c t part_c rest_c part_t rest_t end_c end_t shut_c shut_t
+    → (old.sent_c ++ part_c) ++ rest_c ≡ due_c (context users pubs generation config cap h marks) old t
+sends-rest-c users pubs generation config cap h marks old at c t part_c rest_c part_t rest_t end_c end_t shut_c shut_t k =
+    owes-c users pubs old at c t part_c rest_c part_t rest_t end_c end_t shut_c shut_t old.cause k
+    ∙ relay-owes-c (context users pubs generation config cap h marks) old c t (end_c || old.end_c) (end_t || old.end_t)
+    (plain-relay-facts users pubs generation config cap h marks old at k.begun.plain k.begun.reaches k.begun.uncaused)
+
+sends-rest-t : (users : List User) (pubs : List Config) (generation : ℕ) (config : Config) (cap : ℕ) (h : List Line) (marks : List StopBy)
+    (old : Record) (at : Endpoint) (c t part_c rest_c part_t rest_t : List ℕ) (end_c end_t shut_c shut_t : Bool) → InRelay old at c t part_c rest_c part_t rest_t end_c end_t shut_c shut_t
+    → (old.sent_t ++ part_t) ++ rest_t ≡ due_t (context users pubs generation config cap h marks) old c
+sends-rest-t users pubs generation config cap h marks old at c t part_c rest_c part_t rest_t end_c end_t shut_c shut_t k =
+    owes-t users pubs old at c t part_c rest_c part_t rest_t end_c end_t shut_c shut_t old.cause k
+    ∙ relay-owes-t (context users pubs generation config cap h marks) old c t (end_c || old.end_c) (end_t || old.end_t)
+    (plain-relay-facts users pubs generation config cap h marks old at k.begun.plain k.begun.reaches k.begun.uncaused)
+
+-- the client's side is shut last, or at once with the target's
+finishes-c : (users : List User) (pubs : List Config) (generation : ℕ) (config : Config) (cap : ℕ) (h : List Line) (marks : List StopBy) (worker number now : ℕ)
+    (old : Record) (at : Endpoint) (c t part_c rest_c part_t rest_t : List ℕ) (end_c end_t shut_t idle_c idle_t full_c full_t logged : Bool) → Begun old at
+    → Sums old c t part_c rest_c part_t rest_t end_c end_t true shut_t → old.since ≡ now → shut_t || old.shut_t ≡ true
+    → Finishes users pubs generation config cap h marks worker number now old c t part_c part_t end_c end_t true shut_t idle_c idle_t full_c full_t logged
+finishes-c users pubs generation config cap h marks worker number now old at c t part_c rest_c part_t rest_t end_c end_t shut_t idle_c idle_t full_c full_t logged b k same both_t =
+    closes-with s old worker number now (sum_acts c t part_c part_t end_c end_t true shut_t idle_c idle_t full_c full_t) a a (summed old c t part_c part_t end_c end_t true shut_t (Some Cause.Finished)) Cause.Finished logged
+    (relay-finish-c s old e x going open_c both_t ends_c.0 ends_t.0 (all-sent _ rest_c _ sends_c ends_t.1) (all-sent _ rest_t _ sends_t ends_c.1))
+    (ap (λ p. is_calling p None) (in-phase users pubs generation config cap h marks old at c t (end_c || old.end_c) (end_t || old.end_t) b)) refl same refl (opened-by old at b.plain b.reaches)
+    (ap (λ z. z || false || false) (pending-none users pubs old at c t part_c rest_c part_t rest_t end_c end_t false shut_t (Some Cause.Finished) in_relay) ∙ (λ i. (is_nothing (ends_t.1 i) && is_nothing (ends_c.1 i)) || false || false))
+  where
+    s : Context
+    s = context users pubs generation config cap h marks
+
+    a : Record
+    a = relayed old c t end_c end_t
+
+    open_c : old.shut_c ≡ false
+    open_c = k.once_c refl
+
+    k' : Sums old c t part_c rest_c part_t rest_t end_c end_t false shut_t
+    k' = record { may_c = k.may_c; may_t = k.may_t; pending_c = k.pending_c; pending_t = k.pending_t; once_c = λ e. cc; once_t = k.once_t; due_c = λ e. absurd (cc); due_t = k.due_t }
+
+    in_relay : InRelay old at c t part_c rest_c part_t rest_t end_c end_t false shut_t
+    in_relay = record { begun = b; sums = k'; apart = ap (λ z. z && (shut_t || old.shut_t)) open_c }
+
+    e : TurnEvent
+    e = event_of worker number now (sum_acts c t part_c part_t end_c end_t false shut_t idle_c idle_t full_c full_t) NextMark.Going
+
+    x : Record
+    x = summed old c t part_c part_t end_c end_t false shut_t old.cause
+
+    going : Relaying s old e x
+    going = relays users pubs generation config cap h marks worker number now old at c t part_c rest_c part_t rest_t end_c end_t false shut_t idle_c idle_t full_c full_t b k' in_relay.apart
+
+    ends_t : (end_t || old.end_t ≡ true) × (rest_c ≡ [])
+    ends_t = k.due_c refl
+
+    ends_c : (end_c || old.end_c ≡ true) × (rest_t ≡ [])
+    ends_c = shut-t old at c t part_c rest_c part_t rest_t end_c end_t false shut_t b k' both_t
+
+    sends_c : (old.sent_c ++ part_c) ++ rest_c ≡ due_c s old t
+    sends_c = sends-rest-c users pubs generation config cap h marks old at c t part_c rest_c part_t rest_t end_c end_t false shut_t in_relay
+
+    sends_t : (old.sent_t ++ part_t) ++ rest_t ≡ due_t s old c
+    sends_t = sends-rest-t users pubs generation config cap h marks old at c t part_c rest_c part_t rest_t end_c end_t false shut_t in_relay
+
+-- the target's side is shut last
+finishes-t : (users : List User) (pubs : List Config) (generation : ℕ) (config : Config) (cap : ℕ) (h : List Line) (marks : List StopBy) (worker number now : ℕ)
+    (old : Record) (at : Endpoint) (c t part_c rest_c part_t rest_t : List ℕ) (end_c end_t idle_c idle_t full_c full_t logged : Bool) → Begun old at
+    → Sums old c t part_c rest_c part_t rest_t end_c end_t false true → old.since ≡ now → old.shut_c ≡ true
+    → Finishes users pubs generation config cap h marks worker number now old c t part_c part_t end_c end_t false true idle_c idle_t full_c full_t logged
+finishes-t users pubs generation config cap h marks worker number now old at c t part_c rest_c part_t rest_t end_c end_t idle_c idle_t full_c full_t logged b k same both_c =
+    closes-with s old worker number now (sum_acts c t part_c part_t end_c end_t false true idle_c idle_t full_c full_t) a a (summed old c t part_c part_t end_c end_t false true (Some Cause.Finished)) Cause.Finished logged
+    (relay-finish-t s old e x going both_c open_t ends_c.0 ends_t.0 (all-sent _ rest_c _ sends_c ends_t.1) (all-sent _ rest_t _ sends_t ends_c.1))
+    (ap (λ p. is_calling p None) (in-phase users pubs generation config cap h marks old at c t (end_c || old.end_c) (end_t || old.end_t) b)) refl same refl (opened-by old at b.plain b.reaches)
+    (ap (λ z. z || false || false) (pending-none users pubs old at c t part_c rest_c part_t rest_t end_c end_t false false (Some Cause.Finished) in_relay) ∙ (λ i. (is_nothing (ends_t.1 i) && is_nothing (ends_c.1 i)) || false || false))
+  where
+    and-false : (b : Bool) → b && false ≡ false
+    and-false true = refl
+    and-false false = refl
+
+    s : Context
+    s = context users pubs generation config cap h marks
+
+    a : Record
+    a = relayed old c t end_c end_t
+
+    open_t : old.shut_t ≡ false
+    open_t = k.once_t refl
+
+    k' : Sums old c t part_c rest_c part_t rest_t end_c end_t false false
+    k' = record { may_c = k.may_c; may_t = k.may_t; pending_c = k.pending_c; pending_t = k.pending_t; once_c = λ e. cc; once_t = λ e. cc; due_c = λ e. absurd (cc); due_t = λ e. absurd (cc) }
+
+    in_relay : InRelay old at c t part_c rest_c part_t rest_t end_c end_t false false
+    in_relay = record { begun = b; sums = k'; apart = ap (λ z. old.shut_c && z) open_t ∙ and-false old.shut_c }
+
+    e : TurnEvent
+    e = event_of worker number now (sum_acts c t part_c part_t end_c end_t false false idle_c idle_t full_c full_t) NextMark.Going
+
+    x : Record
+    x = summed old c t part_c part_t end_c end_t false false old.cause
+
+    going : Relaying s old e x
+    going = relays users pubs generation config cap h marks worker number now old at c t part_c rest_c part_t rest_t end_c end_t false false idle_c idle_t full_c full_t b k' in_relay.apart
+
+    ends_t : (end_t || old.end_t ≡ true) × (rest_c ≡ [])
+    ends_t = shut-c old at c t part_c rest_c part_t rest_t end_c end_t false false b k' both_c
+
+    ends_c : (end_c || old.end_c ≡ true) × (rest_t ≡ [])
+    ends_c = k.due_t refl
+
+    sends_c : (old.sent_c ++ part_c) ++ rest_c ≡ due_c s old t
+    sends_c = sends-rest-c users pubs generation config cap h marks old at c t part_c rest_c part_t rest_t end_c end_t false false in_relay
+
+    sends_t : (old.sent_t ++ part_t) ++ rest_t ≡ due_t s old c
+    sends_t = sends-rest-t users pubs generation config cap h marks old at c t part_c rest_c part_t rest_t end_c end_t false false in_relay
+
+pub finishes : (users : List User) (pubs : List Config) (generation : ℕ) (config : Config) (cap : ℕ) (h : List Line) (marks : List StopBy) (worker number now : ℕ)
+    (old : Record) (at : Endpoint) (c t part_c rest_c part_t rest_t : List ℕ) (end_c end_t shut_c shut_t idle_c idle_t full_c full_t logged : Bool) → Begun old at
+    → Sums old c t part_c rest_c part_t rest_t end_c end_t shut_c shut_t → old.since ≡ now → shut_c || old.shut_c ≡ true → shut_t || old.shut_t ≡ true
+    → Finishes users pubs generation config cap h marks worker number now old c t part_c part_t end_c end_t shut_c shut_t idle_c idle_t full_c full_t logged
+finishes users pubs generation config cap h marks worker number now old at c t part_c rest_c part_t rest_t end_c end_t true shut_t idle_c idle_t full_c full_t logged b k same both_c both_t =
+    finishes-c users pubs generation config cap h marks worker number now old at c t part_c rest_c part_t rest_t end_c end_t shut_t idle_c idle_t full_c full_t logged b k same both_t
+finishes users pubs generation config cap h marks worker number now old at c t part_c rest_c part_t rest_t end_c end_t false true idle_c idle_t full_c full_t logged b k same both_c both_t =
+    finishes-t users pubs generation config cap h marks worker number now old at c t part_c rest_c part_t rest_t end_c end_t idle_c idle_t full_c full_t logged b k same both_c
+finishes users pubs generation config cap h marks worker number now old at c t part_c rest_c part_t rest_t end_c end_t false false idle_c idle_t full_c full_t logged b k same both_c both_t =
+    clash (old.shut_c && old.shut_t) (both old.shut_c old.shut_t both_c both_t) (is-relayed old at b.plain b.reaches).dialled.apart
