@@ -356,3 +356,86 @@ relay-finishes told counts stands users pubs generation config cap h marks now n
     relay-closes told counts stands users pubs generation config cap h marks now net a mid e pass k None false Cause.Finished none written m closed
     (λ worker logged. finishes users pubs generation config cap h marks worker a.state.number now a.state k.at _ _ _ _ _ _ _ _ _ _ (is_idle pass.took_c) (is_idle pass.took_t) (is_full pass.gave_c) (is_full pass.gave_t) logged
     k.begun (pass-sums _ _ _ _ _ _ a.state k.new pass k.passes) same (sym k.passes.gives_c.shut' ∙ both_c) (sym k.passes.gives_t.shut' ∙ both_t))
+
+-- ---- between the code and the turn
+
+-- a pass that was made, and an association that ended behind it
+abbrev pub done-turn : {L : Type 0} (told : L → Told) (counts : L → Counts) (a mid : Assoc L) (e : Ended L) (link link' : L) (at : Endpoint) (pass : Pass)
+    → Stands told a → Begun a.state at → a.target ≡ Some link → mid.target ≡ Some link'
+    → Passes (told a.client) (told mid.client) (told link) (told link') (counts a.client) (counts mid.client) a.state mid.state pass
+    → e.client ≡ mid.client → e.target ≡ mid.target → RelayTurn told counts a (Next.Done e) pass
+done-turn {L} told counts a mid e link link' at pass stands begun there there' passes client target = record {
+  link = link;
+  link' = link';
+  at = at;
+  new = mid.state;
+  stands = stands;
+  begun = begun;
+  target = there;
+  target' = target ∙ there';
+  passes = subst (λ (z : L). Passes (told a.client) (told z) (told link) (told link') (counts a.client) (counts z) a.state mid.state pass) (sym client) passes;
+}
+
+-- the record in hand has no datagrams
+pub mid-tcp : (old new : Record) (client client' target target' : Told) (counts counts' : Counts) (pass : Pass) → IsPlainRecord old
+    → Passes client client' target target' counts counts' old new pass → is_udp new ≡ false
+mid-tcp old new client client' target target' counts counts' pass plain passes = ap is_udp passes.is ∙ plain-tcp old plain
+
+pub none-written : (pass : Pass) → fault_of pass ≡ None → unwritten_of pass ≡ false
+none-written pass h = let f = tells-of pass None h in rw (sound-written pass.gave_t f.1, sound-written pass.gave_c f.3) refl
+
+pub not-both : (c t : Bool) → c && t ≡ false → c ≡ true → t ≡ true → ⊥
+not-both c t h k l = clash (c && t) (both c t k l) h
+
+pub both-shut : (c t : Bool) → c && t ≡ true → (c ≡ true) × (t ≡ true)
+both-shut true t h = (refl, h)
+both-shut false t h = absurd (cc)
+
+-- nothing more is to be done behind a fault of the target's
+pub over-due : {L : Type 0} (told : L → Told) (counts : L → Counts) (a : Assoc L) (next : Next L) (pass : Pass) (k : RelayTurn told counts a next pass) → fault_of pass ≡ Some Object.Target
+    → unwritten_of pass || not (has_pending pass) ≡ true
+    → (is_nothing k.passes.gives_c.rest && is_nothing k.passes.gives_t.rest) || unwritten_of pass || false ≡ true
+over-due told counts a next pass k is_fault h = by-write (unwritten_of pass) refl
+  where
+    nothings : Bool
+    nothings = is_nothing k.passes.gives_c.rest && is_nothing k.passes.gives_t.rest
+
+    or-end : (b : Bool) → b || true || false ≡ true
+    or-end true = refl
+    or-end false = refl
+
+    both-sent : (c t : Bool) → not (t || c) ≡ true → not c && not t ≡ true
+    both-sent true true e = absurd (cc)
+    both-sent true false e = absurd (cc)
+    both-sent false true e = absurd (cc)
+    both-sent false false e = refl
+
+    by-write : (b : Bool) → unwritten_of pass ≡ b → nothings || unwritten_of pass || false ≡ true
+    by-write true e = ap (λ z. nothings || z || false) e ∙ or-end nothings
+    by-write false e =
+        let u = or-no (is_unwritten pass.gave_t) (is_unwritten pass.gave_c) e in
+        let rc = (tells-of pass (Some Object.Target) is_fault).0 in
+        (λ i. (nothing-of k.passes.gives_c rc u.1 i && nothing-of k.passes.gives_t rc u.0 i) || e i || false)
+        ∙ ap (λ z. z || false || false) (both-sent (is_full pass.gave_c) (is_full pass.gave_t) (sym (ap (λ z. z || not (has_pending pass)) e) ∙ h))
+
+pub over-written : (pass : Pass) → unwritten_of pass || not (has_pending pass) ≡ false → (unwritten_of pass ≡ false) × (has_pending pass ≡ true)
+over-written pass h = let f = or-no (unwritten_of pass) (not (has_pending pass)) h in (f.0, was (has_pending pass) f.1)
+  where
+    was : (b : Bool) → not b ≡ false → b ≡ true
+    was true e = refl
+    was false e = cc
+
+-- a quiet cause has nothing more to do
+pub quiet-due : (a b : Bool) → a || b || true ≡ true
+quiet-due true b = refl
+quiet-due false true = refl
+quiet-due false false = refl
+
+pub client-closes : {L : Type 0} (told : L → Told) (counts : L → Counts) (stands : List Line → List StopBy → Type 0)
+    (users : List User) (pubs : List Config) (generation : ℕ) (config : Config) (cap : ℕ) (h : List Line) (marks : List StopBy) (now : ℕ) (net : NetTold)
+    (a mid : Assoc L) (e : Ended L) (pass : Pass) (k : RelayTurn told counts a (Next.Done e) pass)
+    → fault_of pass ≡ Some Object.Client → mid.state ≡ k.new → Closed stands h marks Cause.ClientFault mid e → a.state.since ≡ now
+    → Turns told counts stands (context users pubs generation config cap h marks) now net net a (Next.Done e)
+client-closes told counts stands users pubs generation config cap h marks now net a mid e pass k is_fault m closed same =
+    fault-closes told counts stands users pubs generation config cap h marks now net a mid e pass k Object.Client is_fault m closed same
+    (quiet-due (is_nothing k.passes.gives_c.rest && is_nothing k.passes.gives_t.rest) (unwritten_of pass))

@@ -203,10 +203,13 @@ relay-turns {L} told counts stands users pubs generation config cap h marks now 
       (holds-given _ _ _ _ _ _ _ _ _ _ _ _ _ _ (holds-taken _ _ _ _ _ _ _ _ _ _ _ _ k.stands.client p.takes_c) p.gives_c);
   client_ends = ends-given p.gives_c (p.takes_c.behind k.stands.client_ends);
   client_first = first-given p.gives_c (p.takes_c.first k.stands.client_first);
-  target = subst (λ (z : Option L). HoldsTarget told left z) (sym k.target')
-      ((k.at, k.begun.reaches), subst (λ (z : Record). Holds (told k.link') z.t z.sent_t z.end_t z.shut_t) leaves
-      (holds-taken _ _ _ _ _ _ _ _ _ _ _ _ (holds-given _ _ _ _ _ _ _ _ _ _ _ _ _ _ target.1 p.gives_t) p.takes_t),
-      p.takes_t.behind (ends-given p.gives_t target.2), p.takes_t.first (first-given p.gives_t target.3));
+  target = subst (λ (z : Option L). HoldsTarget told left z) (sym k.target') (
+    (k.at, k.begun.reaches),
+    subst (λ (z : Record). Holds (told k.link') z.t z.sent_t z.end_t z.shut_t) leaves
+        (holds-taken _ _ _ _ _ _ _ _ _ _ _ _ (holds-given _ _ _ _ _ _ _ _ _ _ _ _ _ _ target.1 p.gives_t) p.takes_t),
+    p.takes_t.behind (ends-given p.gives_t target.2),
+    p.takes_t.first (first-given p.gives_t target.3),
+  );
   same_client = outside-on (outside-taken p.takes_c) (outside-given p.gives_c);
   same_target = subst (λ (z : Option L). SameTarget told net a.target z) (sym k.target') (subst (λ (z : Option L). SameTarget told net z (Some k.link')) (sym k.target)
       (outside-on (outside-given p.gives_t) (outside-taken p.takes_t)));
