@@ -1,6 +1,7 @@
 pub mod Answered
 pub mod Carrying
 pub mod Closing
+pub mod Draining
 pub mod Hearing
 pub mod Lines
 pub mod Plain

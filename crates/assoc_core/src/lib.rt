@@ -5,6 +5,7 @@ mod accept;
 mod assoc;
 mod carry;
 mod close;
+mod closing;
 mod hear;
 mod prelude;
 mod read;

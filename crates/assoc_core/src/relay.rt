@@ -42,7 +42,7 @@ fn has_ended(take: Take) -> bool
     matches!(take, Take::Ended)
 }
 
-fn is_sound(give: Give) -> bool
+pub fn is_sound(give: Give) -> bool
     ensures { result ≡ sound_by give }
 {
     !matches!(give, Give::Unwritten | Give::Unshut)
