@@ -1,5 +1,6 @@
 pub mod Accepting
 pub mod Carryings
+pub mod Drains
 pub mod Hearings
 pub mod LinksHeld
 pub mod PassLaws

@@ -252,7 +252,7 @@ pub data FailsSide (ended : Bool) (rest : List ℕ) (other was : Bool) : Type 0 
   unsent : 0 < length rest → FailsSide ended rest other was
   unshut : other ≡ true → was ≡ false → FailsSide ended rest other was
 
-something : (part rest : List ℕ) → 0 < length rest → is_nothing (part ++ rest) ≡ false
+pub something : (part rest : List ℕ) → 0 < length rest → is_nothing (part ++ rest) ≡ false
 something [] [] h = absurd (omega arith)
 something [] (b ∷ bs) h = refl
 something (b ∷ bs) rest h = refl

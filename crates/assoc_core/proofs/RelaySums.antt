@@ -96,7 +96,7 @@ closed-more old at c t cause b =
     relayed : IsRelayed old at
     relayed = is-relayed old at b.plain b.reaches
 
-prefix-on : (xs ys zs more : List ℕ) → IsPrefix xs ys → ys ++ more ≡ zs → IsPrefix xs zs
+pub prefix-on : (xs ys zs more : List ℕ) → IsPrefix xs ys → ys ++ more ≡ zs → IsPrefix xs zs
 prefix-on xs ys zs more h k = (h.0 ++ more, sym (append_assoc xs h.0 more) ∙ (ap (λ z. z ++ more) h.1 ∙ k))
 
 pub sent-c : (old : Record) (at : Endpoint) (c t part_c rest_c part_t rest_t : List ℕ) (end_c end_t shut_c shut_t : Bool) (cause : Option Cause) → Begun old at

@@ -127,17 +127,17 @@ IsDesk Outer.Nothing = Unit {0}
 IsDesk (Outer.Desk logged) = Unit {0}
 IsDesk _ = ⊥
 
-desk-dials : (dials : Option (List Dial)) (p : Phase) (outer : Outer) → IsDesk outer → DialsAre dials dials p outer
+pub desk-dials : (dials : Option (List Dial)) (p : Phase) (outer : Outer) → IsDesk outer → DialsAre dials dials p outer
 desk-dials dials p Outer.Nothing h = refl
 desk-dials dials p (Outer.Desk logged) h = refl
 desk-dials dials p _ h = absurd h
 
-desk-plan : (net : NetTold) (outer : Outer) (there : Bool) → IsDesk outer → PlanStays net net outer there
+pub desk-plan : (net : NetTold) (outer : Outer) (there : Bool) → IsDesk outer → PlanStays net net outer there
 desk-plan net Outer.Nothing there h = refl
 desk-plan net (Outer.Desk logged) there h = refl
 desk-plan net _ there h = absurd h
 
-desk-outer : (net : NetTold) (p : Phase) (outer : Outer) → IsDesk outer → IsOuterOf net p outer
+pub desk-outer : (net : NetTold) (p : Phase) (outer : Outer) → IsDesk outer → IsOuterOf net p outer
 desk-outer net p Outer.Nothing h = tt
 desk-outer net p (Outer.Desk logged) h = tt
 desk-outer net p _ h = absurd h
