@@ -1,5 +1,6 @@
 pub mod Accepting
 pub mod Carryings
+pub mod DrainAnswers
 pub mod Drains
 pub mod Hearings
 pub mod LinksHeld
