@@ -102,9 +102,13 @@ target-drained {L} told net old new sent_c (Some link) (Some link') give plain h
   rest = sends.gives.rest;
   owes = sent-on old.sent_t sends.gives.part sends.gives.rest (owed_t old) plain.sent_t (sends.gives.pending' ∙ ap (drop (length old.sent_t)) (sym (ap (plain_to_target old.c) held.0.1)));
   is = sends.is ∙ (λ i. record old { sent_c = sent_c; sent_t = sends.gives.after' i; shut_t = unshut-of sends.gives i });
-  holds' = (held.0, subst (λ (s : List ℕ). Holds (told link') old.t s old.end_t old.shut_t) sends.gives.after'
-      (subst (λ (b : Bool). Holds (told link') old.t new.sent_t old.end_t b) (unshut-of sends.gives) (holds-given _ _ _ _ _ _ _ _ _ _ _ _ _ _ held.1 sends.gives)),
-      ends-given sends.gives held.2, first-given sends.gives held.3);
+  holds' = (
+    held.0,
+    subst (λ (s : List ℕ). Holds (told link') old.t s old.end_t old.shut_t) sends.gives.after'
+        (subst (λ (b : Bool). Holds (told link') old.t new.sent_t old.end_t b) (unshut-of sends.gives) (holds-given _ _ _ _ _ _ _ _ _ _ _ _ _ _ held.1 sends.gives)),
+    ends-given sends.gives held.2,
+    first-given sends.gives held.3,
+  );
   same = outside-given sends.gives;
   nothing = λ h. nothing-of sends.gives refl (sound-written give h);
   full = λ h. let f = full-of sends.gives h in (f.0, f.1);
@@ -370,3 +374,20 @@ drain-rests told counts stands users pubs generation config cap h marks now net 
     sink : (nothing full : Bool) → nothing ≡ not full → nothing || full ≡ true
     sink nothing true e = ap (λ b. b || true) e
     sink nothing false e = ap (λ b. b || false) e
+
+-- no datagrams come by sendings
+pub client-tcp : (old mid : Record) (told told' : Told) (counts counts' : Counts) (give : Give) → IsPlainRecord old → SendsClient told told' counts counts' old mid give → is_udp mid ≡ false
+client-tcp old mid told told' counts counts' give plain sends = ap is_udp sends.is ∙ plain-tcp old plain
+
+pub target-tcp : {L : Type 0} (told : L → Told) (target target' : Option L) (between new : Record) (give : Give) → SendsTarget told target target' between new give → is_udp between ≡ false → is_udp new ≡ false
+target-tcp told None None between new give sends h = ap is_udp sends.0 ∙ h
+target-tcp told None (Some link') between new give sends h = absurd sends
+target-tcp told (Some link) None between new give sends h = absurd sends
+target-tcp told (Some link) (Some link') between new give sends h = ap is_udp sends.is ∙ h
+
+pub or-left : (a b : Bool) → a ≡ true → a || b ≡ true
+or-left a b h = ap (λ z. z || b) h
+
+pub or-right : (a b : Bool) → b ≡ true → a || b ≡ true
+or-right true b h = refl
+or-right false b h = h

@@ -32,7 +32,14 @@ fn send_to_client<L: Link>(
 {
     let owed = owed_to_client(alloc, state)?;
     let pending = behind(owed.as_slice(), state.sent_c.len());
-    give_to(alloc, client, &mut state.sent_c, pending, false, &mut state.shut_c)
+    give_to(
+        alloc,
+        client,
+        &mut state.sent_c,
+        pending,
+        false,
+        &mut state.shut_c,
+    )
 }
 
 /// Sends what is pending to the target, where there is one.
@@ -47,7 +54,14 @@ fn send_to_target<L: Link + Drop>(
         return Ok(Give::Held);
     };
     let pending = behind(behind(state.c.as_slice(), PRELUDE), state.sent_t.len());
-    give_to(alloc, link, &mut state.sent_t, pending, false, &mut state.shut_t)
+    give_to(
+        alloc,
+        link,
+        &mut state.sent_t,
+        pending,
+        false,
+        &mut state.shut_t,
+    )
 }
 
 fn is_full(give: Give) -> bool
