@@ -1,6 +1,7 @@
 pub mod Answered
 pub mod Carrying
 pub mod Closing
+pub mod Granting
 pub mod Hearing
 pub mod Lines
 pub mod Plain

@@ -5,6 +5,7 @@ mod accept;
 mod assoc;
 mod carry;
 mod close;
+mod grant;
 mod hear;
 mod prelude;
 mod read;
@@ -12,5 +13,6 @@ mod refusals;
 mod relay;
 mod replies;
 mod send;
+mod talk;
 
 pub use assoc::{Assoc, Ended, Next};
