@@ -9,3 +9,4 @@ pub mod RelaySums
 pub mod Sendings
 pub mod ServedInput
 pub mod StandsLaws
+pub mod Talking
