@@ -9,4 +9,5 @@ pub mod RelaySums
 pub mod Sendings
 pub mod ServedInput
 pub mod StandsLaws
+pub mod TalkTurns
 pub mod Talking
