@@ -9,5 +9,6 @@ pub mod RelaySums
 pub mod Sendings
 pub mod ServedInput
 pub mod StandsLaws
+pub mod TalkCloses
 pub mod TalkTurns
 pub mod Talking

@@ -142,7 +142,7 @@ stops-as was ends idle part fault P Q f (StopsReading.unread h) = StopsReading.u
 ends-heard : (told : Told) (ends : Bool) → told.ended ≡ ends → (ends ≡ true → IsAtEnd told) → EndsBehind told
 ends-heard told ends is at_end arrival given e1 e2 ended = at_end (sym is ∙ ended) arrival given e1 e2
 
-turns-talked : {L : Type 0} (told : L → Told) (counts : L → Counts) (stands : List Line → List StopBy → Type 0) (t : Hearing) (now : ℕ) (net : NetTold) (a : Assoc L) (next : Next L)
+pub turns-talked : {L : Type 0} (told : L → Told) (counts : L → Counts) (stands : List Line → List StopBy → Type 0) (t : Hearing) (now : ℕ) (net : NetTold) (a : Assoc L) (next : Next L)
     (y : List ℕ) (ends : Bool) (desk : Option Bool) (idle full : Bool) (fault : Option Object) (unwritten : Bool)
     → Stands told (with_state a (before t)) → Talked told counts stands t now a next y ends desk idle full fault unwritten
     → Turns told counts stands (context_of t) now net net (with_state a (before t)) next
