@@ -1,5 +1,6 @@
 pub mod Accepting
 pub mod Carryings
+pub mod HeardTurns
 pub mod Hearings
 pub mod LinksHeld
 pub mod PlainRecords

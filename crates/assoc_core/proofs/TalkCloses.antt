@@ -1,5 +1,5 @@
 -- The turns in which a client that talks is closed.
-use Rattle.std.proofs.Common.{◌≡◌, ℕ, ◌<◌, ◌≤◌, Bool, true, false, ◌&&◌, ◌||◌, not, Option, Some, None, List, [], ◌∷◌, ◌++◌, length, drop, refl, sym, ap, subst, ◌∙◌, inl, inr, is_some, is_none, arith}
+use Rattle.std.proofs.Common.{◌≡◌, ℕ, ◌<◌, ◌≤◌, Bool, true, false, ◌&&◌, ◌||◌, not, ◌⊎◌, Option, Some, None, List, [], ◌∷◌, ◌++◌, length, drop, refl, sym, ap, subst, ◌∙◌, inl, inr, is_some, is_none, arith}
 use Rattle.std.proofs.lemmas.List.{append-nil}
 use Rattle.net_ends.specs.Counts.{Counts, Rose}
 use Rattle.net_ends.specs.Nets.{NetTold}
@@ -19,7 +19,7 @@ use Rattle.socks_machine.specs.Owed.{owed_to_client, owed_to_target}
 use Rattle.socks_machine.specs.Datagrams.{owed_datagrams}
 use Rattle.socks_machine.specs.Phase.{Phase, phase, is_udp}
 use Rattle.socks_machine.specs.Taking.{reads_client, reads_target}
-use Rattle.socks_machine.specs.Turn.{turn, quantum, with_fault, fault_fits, close_is_due, marked}
+use Rattle.socks_machine.specs.Turn.{turn, quantum, with_fault, fault_fits, close_is_due, marked, nothing_pending, is_quiet, rests, is_late}
 use Rattle.socks_machine.proofs.CallLaws.{closes}
 use Rattle.assoc_core.specs.declared.assoc.Assoc.{Assoc}
 use Rattle.assoc_core.specs.declared.assoc.Ended.{Ended}
@@ -67,11 +67,12 @@ pub closed-as : {L : Type 0} (stands : List Line → List StopBy → Type 0) (h 
     → Closed stands h marks cause b e → Closed stands h marks cause (with_state b s) e
 closed-as stands h marks cause b e s is k = subst (λ (r : Record). Closed stands h marks cause (with_state b r) e) is k
 
-pub third-due : (a b c d : Bool) → c ≡ true → a || b || c || d ≡ true
-third-due true b c d h = refl
-third-due false true c d h = refl
-third-due false false true d h = refl
-third-due false false false d h = absurd (cc)
+due-by : (a b c d : Bool) → (a ≡ true) ⊎ (c ≡ true) → a || b || c || d ≡ true
+due-by true b c d h = refl
+due-by false true c d h = refl
+due-by false false true d h = refl
+due-by false false false d (inl h) = absurd (cc)
+due-by false false false d (inr h) = absurd (cc)
 
 -- what a turn that closes has taken and sent, and why it closes
 pub record ClosesTalk {L : Type 0} (told : L → Told) (counts : L → Counts) (stands : List Line → List StopBy → Type 0) (t : Hearing) (a b : Assoc L) (e : Ended L)
@@ -94,7 +95,7 @@ pub record ClosesTalk {L : Type 0} (told : L → Told) (counts : L → Counts) (
   pub fits : fault_fits (basis_of t) fault unwritten behind ≡ true
   pub rest : List ℕ
   pub owed' : sent ++ rest ≡ owed_to_client (basis_of t) (caused t t.sent ends (Some cause))
-  pub due : (worker : ℕ) → close_is_due (context_of t) (closing_acts t y ends idle fault unwritten worker (t.party).since) (caused t sent ends (Some cause)) ≡ true
+  pub due : (nothing_pending (basis_of t) (caused t sent ends (Some cause)) ≡ true) ⊎ (is_quiet (Some cause) ≡ true)
   pub at_end : ends ≡ true → IsAtEnd (told b.client)
   pub first : GivesFirst (told b.client)
   pub idle_c : idle ≡ true → IsIdle (told b.client) × Rose (counts a.client).idle_reads (counts b.client).idle_reads
@@ -110,7 +111,7 @@ turns-closed told counts stands t net a b e y sent ends idle fault unwritten cau
       result = marked NextMark.Done (call_close t.h t.marks r cause closed.closes.logged);
       lawful = λ worker. closes (context_of t) (before t) (closing_acts t y ends idle fault unwritten worker (t.party).since) h.behind (caused t t.sent ends (Some cause)) r cause closed.closes.logged
           (talk-stages t y ends idle false fault unwritten worker (t.party).since h.behind (caused t t.sent ends (Some cause)) h.rest sent h.takes h.faults refl refl refl h.sent' h.owed')
-          h.uncalling h.fits (h.due worker) refl;
+          h.uncalling h.fits (due' worker) refl;
       state' = ended';
       desk' = closed.closes.stands';
       goes_on = (ap (λ z. z.done) ended', ap (λ z. is_udp z) ended', ap (λ z. z.sent_u) ended');
@@ -141,6 +142,10 @@ turns-closed told counts stands t net a b e y sent ends idle fault unwritten cau
   where
     r : Record
     r = caused t sent ends (Some cause)
+
+    due' : (worker : ℕ) → close_is_due (context_of t) (closing_acts t y ends idle fault unwritten worker (t.party).since) r ≡ true
+    due' worker = due-by (nothing_pending (basis_of t) r) unwritten (is_quiet (Some cause))
+        (rests (basis_of t) (closing_acts t y ends idle fault unwritten worker (t.party).since) r && is_late (basis_of t) t.config (t.party).since r) h.due
 
     closed : Closed stands t.h t.marks cause (with_state b (caused t sent ends None)) e
     closed = closed-as stands t.h t.marks cause b e (caused t sent ends None) h.state' h.closed
