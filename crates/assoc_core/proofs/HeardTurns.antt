@@ -177,7 +177,7 @@ left-to-send t ends cause =
 some-not-none : (k : Cause) → Some k ≡ None → ⊥
 some-not-none k e = cc
 
-short-heard : (t : Hearing) → is_decided (t.c ++ t.x) ≡ false → length t.x < quantum
+pub short-heard : (t : Hearing) → is_decided (t.c ++ t.x) ≡ false → length t.x < quantum
 short-heard t undecided = let h : length (t.c ++ t.x) < 13 = undecided-short (t.c ++ t.x) undecided in omega (arith, length-append t.c t.x)
 
 -- ---- the client has ended

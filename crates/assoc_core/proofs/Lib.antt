@@ -1,4 +1,5 @@
 pub mod Accepting
+pub mod Answering
 pub mod Carryings
 pub mod HeardTurns
 pub mod Hearings
