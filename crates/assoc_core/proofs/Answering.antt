@@ -160,8 +160,11 @@ waits-for told counts stands users pubs generation config most h marks now net a
       talks = λ e1. absurd (cc);
       short = λ e1. absurd (cc);
       idle_c = λ e1. (subst IsIdle (sym sends'.told') (k.hears).ends.0, rose-after _ _ _ (k.hears).ends.1 (sends'.later).idle_reads);
-      full_c = λ e1. (((by sends'.rest sends'.ends).1 e1).1, rose-before _ _ _ ((k.hears).later).idle_writes ((by sends'.rest sends'.ends).1 e1).2,
-        short s.sent_c sends'.rest (chosen_reply (answered t) ++ []) owed-plain ((by sends'.rest sends'.ends).1 e1).0);
+      full_c = λ e1. (
+        ((by sends'.rest sends'.ends).1 e1).1,
+        rose-before _ _ _ ((k.hears).later).idle_writes ((by sends'.rest sends'.ends).1 e1).2,
+        short s.sent_c sends'.rest (chosen_reply (answered t) ++ []) owed-plain ((by sends'.rest sends'.ends).1 e1).0,
+      );
       fails_c = λ e1. absurd (cc);
       unfailing = λ e1. (refl, refl);
     }))
@@ -256,7 +259,7 @@ writes-fail told counts stands users pubs generation config most h marks now net
         && (false || may_write (basis_of t) (caused t t.sent false (Some Cause.ClientFault))) ≡ true
     fits =
         ap (λ (p : Phase). (reads_in (heard t) p Object.Client || has_pending (basis_of t) (heard t) Object.Client || may_be_shut (basis_of t) (heard t) Object.Client)
-          && may_write (basis_of t) (caused t t.sent false (Some Cause.ClientFault))) talks
+        && may_write (basis_of t) (caused t t.sent false (Some Cause.ClientFault))) talks
         ∙ ap (λ b. b || has_pending (basis_of t) (caused t t.sent false (Some Cause.ClientFault)) Object.Target) pending
 
     clash : (told a.client).unfailing ≡ true → (told client).unfailing ≡ false → ⊥

@@ -115,7 +115,7 @@ pub behind-is : {L : Type 0} (told : L → Told) (counts : L → Counts) (users 
     (a b : Assoc L) (how : Heard) (k : HasHeard told counts generation config a b how) → b.state ≡ heard (hearing_of told counts users pubs generation config most h marks a b how k)
 behind-is told counts users pubs generation config most h marks a b how k =
     k.state' ∙ (λ i. let r : Record = before-is told counts users pubs generation config most h marks a b how k i in
-      record r { c = (k.hears).after' i; chosen = chosen_as generation r.chosen ((k.hears).after' i) })
+    record r { c = (k.hears).after' i; chosen = chosen_as generation r.chosen ((k.hears).after' i) })
 
 pub stands-before : {L : Type 0} (told : L → Told) (counts : L → Counts) (users : List User) (pubs : List Config) (generation : ℕ) (config : Config) (most : ℕ) (h : List Line) (marks : List StopBy)
     (a b : Assoc L) (how : Heard) (k : HasHeard told counts generation config a b how) → Stands told (with_state a (before (hearing_of told counts users pubs generation config most h marks a b how k)))
@@ -170,9 +170,10 @@ owes-caused t ends cause talks = plain-owes-client t.users t.pubs (caused t t.se
 
 -- what is left to send
 left-to-send : (t : Hearing) (ends : Bool) (cause : Cause) → (rest : List ℕ) × (t.sent ++ rest ≡ owed_to_client (basis_of t) (caused t t.sent ends (Some cause)))
-left-to-send t ends cause =
-    ((first-sent t (refusal_owed (t.c ++ t.x) None (Some cause))).0,
-      (first-sent t (refusal_owed (t.c ++ t.x) None (Some cause))).1 ∙ sym (owes-caused t ends (Some cause) (λ e. absurd (cc))))
+left-to-send t ends cause = (
+  (first-sent t (refusal_owed (t.c ++ t.x) None (Some cause))).0,
+  (first-sent t (refusal_owed (t.c ++ t.x) None (Some cause))).1 ∙ sym (owes-caused t ends (Some cause) (λ e. absurd (cc))),
+)
 
 some-not-none : (k : Cause) → Some k ≡ None → ⊥
 some-not-none k e = cc

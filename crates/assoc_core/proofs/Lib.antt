@@ -1,6 +1,7 @@
 pub mod Accepting
 pub mod Answering
 pub mod Carryings
+pub mod GrantTurns
 pub mod HeardTurns
 pub mod Hearings
 pub mod LinksHeld

@@ -173,9 +173,6 @@ pub record IsCarried (r : Record) : Type 0 where
   pub shut_c : r.shut_c ≡ true → (r.end_t ≡ true) × (r.sent_c ≡ owed_c r)
   pub shut_t : r.shut_t ≡ true → (r.end_c ≡ true) × (r.sent_t ≡ owed_t r)
 
-
-
-
 pub carried-plain : (old : Record) (at : Endpoint) (c t : List ℕ) (end_c end_t : Bool) (sent_c sent_t : List ℕ) (shut_c shut_t : Bool) (cause : Option Cause)
     → IsPlainRecord old → reached_at old.decisions ≡ Some at → IsCarried (carried old c t end_c end_t sent_c sent_t shut_c shut_t cause)
     → IsPlainRecord (carried old c t end_c end_t sent_c sent_t shut_c shut_t cause)

@@ -263,8 +263,11 @@ takes-end t idle full undecided = record {
   came = refl;
   bytes_c = took-bytes (basis_of t) idle full t.generation (t.config).methods t.x (before t) (heard t) (phase-before t)
       (ap (settled (basis_of t)) (takes-bytes t) ∙ settled-undecided t undecided) (heard-nothing t);
-  ends_c = inr (refl, ap (reads_client (basis_of t) idle full (heard t)) (phase-undecided t t.sent false undecided),
-    sym (settled-by t true Split.More (phase-undecided t t.sent true undecided) (more-split (t.c ++ t.x) t.served (heard-unwhole t undecided))));
+  ends_c = inr (
+    refl,
+    ap (reads_client (basis_of t) idle full (heard t)) (phase-undecided t t.sent false undecided),
+    sym (settled-by t true Split.More (phase-undecided t t.sent true undecided) (more-split (t.c ++ t.x) t.served (heard-unwhole t undecided))),
+  );
 }
 
 abbrev pub bad_version : Hearing → ℕ → Record

@@ -33,11 +33,7 @@ fn is_decided(c: &[u8]) -> bool
 }
 
 /// Reads a client until its prelude is decided, it ends, answers `NotYet` or fails.
-pub fn hear<L: Link>(
-    alloc: Global,
-    text: &mut Text,
-    link: &mut L,
-) -> Result<Heard, AllocError>
+pub fn hear<L: Link>(alloc: Global, text: &mut Text, link: &mut L) -> Result<Heard, AllocError>
     ensures { IfOk result (λ heard. Hears (L.told link.old) (L.told link.new) (L.counts link.old) (L.counts link.new) text.old text.new heard) }
 {
     'reading: while !is_decided(text.as_slice()) {
