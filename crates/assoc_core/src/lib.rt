@@ -8,6 +8,7 @@ mod close;
 mod grant;
 mod hear;
 mod prelude;
+mod reach;
 mod read;
 mod refusals;
 mod relay;
