@@ -7,6 +7,7 @@ pub mod Hearings
 pub mod LinksHeld
 pub mod PlainRecords
 pub mod PreludeBytes
+pub mod Reaching
 pub mod RelayRecords
 pub mod RelaySums
 pub mod Sendings

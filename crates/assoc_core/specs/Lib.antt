@@ -6,6 +6,7 @@ pub mod Hearing
 pub mod Lines
 pub mod Plain
 pub mod Preludes
+pub mod Reaching
 pub mod Reads
 pub mod Sending
 pub mod Stands
