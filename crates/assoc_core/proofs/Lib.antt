@@ -1,12 +1,16 @@
 pub mod Accepting
+pub mod Answering
 pub mod Carryings
 pub mod DrainAnswers
 pub mod Drains
+pub mod GrantTurns
+pub mod HeardTurns
 pub mod Hearings
 pub mod LinksHeld
 pub mod PassLaws
 pub mod PlainRecords
 pub mod PreludeBytes
+pub mod Reaching
 pub mod RelayAnswers
 pub mod RelayCloses
 pub mod RelayEnds
@@ -16,3 +20,6 @@ pub mod RelayTurns
 pub mod Sendings
 pub mod ServedInput
 pub mod StandsLaws
+pub mod TalkCloses
+pub mod TalkTurns
+pub mod Talking

@@ -270,7 +270,7 @@ pub connect-length : (users : List User) (pubs : List Config) (r : Record) (to :
     → length_of (split_of (socks users pubs) r) ≡ 13
 connect-length users pubs r to served chosen h = ap length_of (plain-split users pubs r served chosen ∙ connect-split r.c to h)
 
-and-false : (b : Bool) → b && false ≡ false
+pub and-false : (b : Bool) → b && false ≡ false
 and-false true = refl
 and-false false = refl
 

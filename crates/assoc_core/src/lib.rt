@@ -6,12 +6,15 @@ mod assoc;
 mod carry;
 mod close;
 mod closing;
+mod grant;
 mod hear;
 mod prelude;
+mod reach;
 mod read;
 mod refusals;
 mod relay;
 mod replies;
 mod send;
+mod talk;
 
 pub use assoc::{Assoc, Ended, Next};

@@ -1,0 +1,113 @@
+ghost use Rattle.std.specs.Prelude.{◌≡◌, ℕ, None, Option, List, [], ◌∷◌, IfOk, option_map, drop, length};
+ghost use Rattle.conf_model.specs.declared.config.Config.{Config};
+ghost use Rattle.conf_model.specs.declared.user.User.{User};
+ghost use Rattle.rule_list.specs.declared.facts.Facts.{Facts};
+ghost use Rattle.rule_list.specs.declared.verdict.Verdict.{Verdict};
+ghost use Rattle.socks_machine.specs.declared.lines.Line.{Line};
+ghost use Rattle.socks_machine.specs.declared.cause.StopBy.{StopBy};
+ghost use Rattle.socks_machine.specs.declared.record.Decision.{Decision};
+ghost use Rattle.socks_machine.specs.Decisions.{granted};
+ghost use Rattle.assoc_core.specs.Plain.{owed_t};
+ghost use Rattle.assoc_core.specs.Sending.{Sends};
+ghost use Rattle.assoc_core.specs.Stands.{Stands, TellsServed};
+ghost use Rattle.assoc_core.specs.Turns.{Turns, context};
+
+use crate::assoc::{Assoc, Next};
+use crate::prelude::PRELUDE;
+use crate::refusals::first_cause;
+use crate::relay::behind;
+use crate::send::{Sent, send_pending};
+use crate::talk::send_to_client;
+use addr_pattern::Endpoint;
+use net_ends::{Dialing, Link, Net};
+use socks_machine::{Cause, Decision, Record};
+use std::alloc::{AllocError, Global};
+
+/// The destination that was granted.
+fn granted_to(decisions: &[Decision]) -> Option<Endpoint>
+    ensures { result ≡ option_map (λ g. g.facts.to) (granted decisions.now) }
+{
+    match decisions {
+        [] => None,
+        [Decision::Granted { facts, .. }, ..] => Some(facts.to),
+        [_, rest @ ..] => granted_to(rest),
+    }
+}
+
+/// Sends the client's bytes behind its prelude to the target.
+fn send_to_target<L: Link>(
+    alloc: Global,
+    state: &mut Record,
+    target: &mut L,
+) -> Result<Sent, AllocError>
+    ensures sends { IfOk result (λ outcome. Sends (L.told target.old) (L.told target.new) (L.counts target.old) (L.counts target.new) state.old.sent_t state.new.sent_t (drop (length state.old.sent_t) (drop 13 state.old.c)) outcome) }
+    ensures state { IfOk result (λ outcome. state.new ≡ record state.old { sent_t = state.new.sent_t }) }
+{
+    let pending = behind(behind(state.c.as_slice(), PRELUDE), state.sent_t.len());
+    send_pending(alloc, target, &mut state.sent_t, pending)
+}
+
+impl<L: Link + Drop> Assoc<L> {
+    /// The target is reached: the reply of success is written, and what the client has sent behind its prelude.
+    fn greet(mut self, alloc: Global, mut link: L) -> Result<Next<L>, AllocError> {
+        match send_to_client(alloc, &mut self.state, &mut self.client)? {
+            Sent::All | Sent::Full => {}
+            Sent::Failed => {
+                self.state.cause = first_cause(Some(Cause::ClientFault), self.state.cause);
+                self.target = Some(link);
+                return Ok(Next::Again(self));
+            }
+        }
+        match send_to_target(alloc, &mut self.state, &mut link)? {
+            Sent::All | Sent::Full => {}
+            Sent::Failed => {
+                self.state.cause = first_cause(Some(Cause::TargetFault), self.state.cause);
+            }
+        }
+        self.target = Some(link);
+        Ok(Next::Again(self))
+    }
+
+    /// The target isn't reached: the refusal is written.
+    fn refuse(mut self, alloc: Global, cause: Cause) -> Result<Next<L>, AllocError> {
+        self.state.cause = first_cause(Some(cause), self.state.cause);
+        match send_to_client(alloc, &mut self.state, &mut self.client)? {
+            Sent::All | Sent::Full => Ok(Next::Again(self)),
+            Sent::Failed => {
+                self.state.cause = first_cause(Some(Cause::ClientFault), self.state.cause);
+                Ok(Next::Again(self))
+            }
+        }
+    }
+}
+
+/// Dials the granted destination. `now` is in seconds.
+pub(crate) fn reach<N: Net>(
+    mut assoc: Assoc<N::Link>,
+    alloc: Global,
+    now: u64,
+    net: &mut N,
+) -> Result<Next<N::Link>, AllocError>
+where
+    N::Link: Drop,
+{
+    let Some(to) = granted_to(assoc.state.decisions.as_slice()) else {
+        return Err(AllocError);
+    };
+    assoc
+        .state
+        .decisions
+        .push(Decision::Reached { to, at: None })?;
+    match net.dial(to) {
+        Dialing::Up { link, local } => {
+            let at = Some(local);
+            assoc.state.decisions.set_last(Decision::Reached { to, at });
+            assoc.state.since = now;
+            assoc.greet(alloc, link)
+        }
+        Dialing::Refused => assoc.refuse(alloc, Cause::Refused),
+        Dialing::HostUnreachable => assoc.refuse(alloc, Cause::HostUnreachable),
+        Dialing::NetUnreachable => assoc.refuse(alloc, Cause::NetUnreachable),
+        Dialing::Failed => assoc.refuse(alloc, Cause::NetFault),
+    }
+}
