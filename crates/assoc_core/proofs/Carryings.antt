@@ -1,21 +1,18 @@
 -- How reads add up to what one turn takes of a source.
-use Rattle.std.proofs.Common.{◌≡◌, ◌+◌, ◌-◌, ◌<◌, ◌≤◌, ◌||◌, ℕ, Bool, true, false, List, [], ◌∷◌, ◌++◌, length, Option, Some, None, refl, ap, sym, subst, ◌∙◌, append_assoc, length-append, arith, is_some, nat_le, le-leb}
+use Rattle.std.proofs.Common.{◌≡◌, ◌+◌, ◌-◌, ◌<◌, ◌≤◌, ℕ, Bool, true, false, List, [], ◌++◌, length, refl, ap, sym, subst, ◌∙◌, append_assoc, length-append, arith, nat_le, le-leb}
 use Rattle.std.proofs.lemmas.Bool.{lt-leb}
 use Rattle.std.proofs.lemmas.List.{append-nil}
 use mathlib.Core.List.{IsPrefix}
-use Rattle.net_ends.specs.Counts.{Counts, Later, Rose}
-use Rattle.net_ends.specs.Told.{Told, Arrival, more, GivesArrived, IsGivenFrom}
+use Rattle.net_ends.specs.Counts.{Counts, Later}
+use Rattle.net_ends.specs.Told.{Told, more, GivesArrived}
 use Rattle.net_ends.specs.declared.link.Reading.{Reading}
-use Rattle.socks_machine.specs.Relaying.{MayTake}
-use Rattle.socks_machine.specs.Taking.{some_in}
 use Rattle.socks_machine.specs.Turn.{quantum}
 use Rattle.assoc_core.specs.declared.carry.Give.{Give}
 use Rattle.assoc_core.specs.declared.carry.Take.{Take}
 use Rattle.assoc_core.specs.Carrying.{TakesPart, TakeEnds, GivesPart, is_read, is_quantum}
 use Rattle.assoc_core.specs.Reads.{ComesOf, Rests}
 use Rattle.assoc_core.specs.Stands.{EndsBehind, GivesFirst}
-use Rattle.assoc_core.specs.Turns.{IsIdle}
-use Rattle.assoc_core.proofs.Sendings.{more-nil, more-more, later-same, later-on, rose-before}
+use Rattle.assoc_core.proofs.Sendings.{more-nil, more-more, later-same, later-on}
 
 -- bytes were read of a source, and so many more may be
 pub record TakesSoFar (old new : Told) (counts counts' : Counts) (before after : List ℕ) (left : ℕ) : Type 0 where

@@ -1,7 +1,6 @@
 -- The answers of a turn in Closing.
-use Rattle.std.proofs.Common.{◌≡◌, ℕ, ◌<◌, ◌⊎◌, inl, inr, Bool, true, false, ◌&&◌, ◌||◌, not, Option, Some, None, List, [], ◌∷◌, ◌++◌, refl, sym, ap, subst, ◌∙◌, length, drop, is_none}
+use Rattle.std.proofs.Common.{◌≡◌, ℕ, ◌<◌, ◌⊎◌, inl, inr, Bool, true, false, ◌&&◌, ◌||◌, not, Option, Some, None, List, [], ◌∷◌, ◌++◌, refl, sym, ap, subst, ◌∙◌, length, drop}
 use Rattle.std.proofs.lemmas.List.{append-nil}
-use mathlib.Core.List.{IsPrefix}
 use Rattle.addr_pattern.specs.declared.endpoint.Endpoint.{Endpoint}
 use Rattle.conf_model.specs.declared.config.Config.{Config}
 use Rattle.conf_model.specs.declared.protocol.Command.{Command}
@@ -14,7 +13,6 @@ use Rattle.socks_machine.specs.declared.cause.Cause.{Cause}
 use Rattle.socks_machine.specs.declared.cause.StopBy.{StopBy}
 use Rattle.socks_machine.specs.declared.lines.CloseLine.{CloseLine}
 use Rattle.socks_machine.specs.declared.lines.Line.{Line}
-use Rattle.socks_machine.specs.declared.record.Decision.{Decision}
 use Rattle.socks_machine.specs.declared.record.Record.{Record}
 use Rattle.socks_machine.specs.declared.world.Object.{Object}
 use Rattle.socks_machine.specs.declared.world.Outer.{Outer}
@@ -31,14 +29,14 @@ use Rattle.assoc_core.specs.declared.assoc.Next.{Next}
 use Rattle.assoc_core.specs.declared.carry.Give.{Give}
 use Rattle.assoc_core.specs.Carrying.{GivesPart, is_sound, is_full}
 use Rattle.assoc_core.specs.Closing.{Closed}
-use Rattle.assoc_core.specs.Draining.{SendsClient, SendsLink, SendsTarget}
-use Rattle.assoc_core.specs.Plain.{IsPlainRecord, HasDecided, Talking, Judged, Dialled, Untargeted, owed_c, owed_t, plain_to_target, prelude}
+use Rattle.assoc_core.specs.Draining.{SendsClient, SendsTarget}
+use Rattle.assoc_core.specs.Plain.{IsPlainRecord, HasDecided, Untargeted, owed_c, owed_t, plain_to_target}
 use Rattle.assoc_core.specs.Stands.{Holds, HoldsTarget, Stands, EndsBehind, GivesFirst}
 use Rattle.assoc_core.specs.Turns.{context, Turns, left_of, IsFull, IsThereAnd, IsUnfailing, SameOutside, SameTarget}
 use Rattle.assoc_core.proofs.Drains.{drained, Drains, DrainFault, DrainTurn, drain-closes, drain-waits, drain-turns}
 use Rattle.assoc_core.proofs.LinksHeld.{holds-given, ends-given, first-given, outside-given}
 use Rattle.assoc_core.proofs.PassLaws.{full-of, unsound-of, nothing-of, sound-written}
-use Rattle.assoc_core.proofs.PlainRecords.{DecidedForms, decided-forms}
+use Rattle.assoc_core.proofs.PlainRecords.{decided-forms}
 use Rattle.assoc_core.proofs.RelayRecords.{plain-tcp}
 use Rattle.assoc_core.proofs.RelaySums.{clash, sent-on, none-left, all-sent}
 

@@ -1,8 +1,7 @@
 -- A turn in Closing.
-use Rattle.std.proofs.Common.{◌≡◌, ℕ, ◌+◌, ◌<◌, ◌⊎◌, inl, inr, Bool, true, false, ◌&&◌, ◌||◌, not, if◌then◌else◌, nat_le, Option, Some, None, List, [], ◌++◌, refl, sym, ap, subst, ◌∙◌, length, drop, length-append, append_assoc, is_some}
+use Rattle.std.proofs.Common.{◌≡◌, ℕ, ◌<◌, inl, Bool, true, false, ◌&&◌, ◌||◌, not, Option, Some, None, List, [], ◌++◌, refl, sym, ap, ◌∙◌, length, drop, length-append, append_assoc}
 use Rattle.std.proofs.lemmas.List.{append-nil}
 use Rattle.std.proofs.Math.Seq.{drop-append_seam}
-use mathlib.Core.List.{IsPrefix}
 use Rattle.conf_model.specs.declared.config.Config.{Config}
 use Rattle.conf_model.specs.declared.user.User.{User}
 use Rattle.conf_model.specs.Plain.{IsPlain}
@@ -11,38 +10,32 @@ use Rattle.net_ends.specs.Nets.{NetTold}
 use Rattle.net_ends.specs.Told.{Told}
 use Rattle.socks_machine.specs.declared.cause.Cause.{Cause}
 use Rattle.socks_machine.specs.declared.cause.StopBy.{StopBy}
-use Rattle.socks_machine.specs.declared.lines.CloseLine.{CloseLine}
 use Rattle.socks_machine.specs.declared.lines.Line.{Line}
-use Rattle.socks_machine.specs.declared.record.Decision.{Decision}
 use Rattle.socks_machine.specs.declared.record.Record.{Record}
 use Rattle.socks_machine.specs.declared.world.NextMark.{NextMark}
 use Rattle.socks_machine.specs.declared.world.Object.{Object}
 use Rattle.socks_machine.specs.declared.world.Outer.{Outer}
 use Rattle.socks_machine.specs.Basis.{Basis}
-use Rattle.socks_machine.specs.Calls.{Context, keep, call_close, close_line, cause_of_shut, is_calling}
+use Rattle.socks_machine.specs.Calls.{keep, call_close, is_calling}
 use Rattle.socks_machine.specs.Datagrams.{owed_datagrams}
 use Rattle.socks_machine.specs.Decisions.{is_opened}
 use Rattle.socks_machine.specs.History.{at_close}
 use Rattle.socks_machine.specs.InTurn.{InTurn, Sends}
-use Rattle.socks_machine.specs.Owed.{owed_to_client, owed_to_target, pending_to_client, pending_to_target, has_target}
-use Rattle.socks_machine.specs.Phase.{Phase, phase, is_udp}
+use Rattle.socks_machine.specs.Owed.{pending_to_client, pending_to_target, has_target}
+use Rattle.socks_machine.specs.Phase.{Phase, phase}
 use Rattle.socks_machine.specs.Settle.{fix, first_cause, is_nothing}
 use Rattle.socks_machine.specs.Socks.{socks}
-use Rattle.socks_machine.specs.Step.{fresh}
 use Rattle.socks_machine.specs.Taking.{holds, reads_client, reads_target}
-use Rattle.socks_machine.specs.Turn.{turn, marked, guard, is_there, with_fault, fault_fits, fault_cause, may_fail, may_write, has_pending, may_be_shut, reads_in, nothing_pending, sinks_rest, is_quiet}
+use Rattle.socks_machine.specs.Turn.{turn, marked, guard, with_fault, fault_fits, may_write, has_pending, may_be_shut, reads_in, is_quiet}
 use Rattle.assoc_core.specs.declared.assoc.Assoc.{Assoc}
-use Rattle.assoc_core.specs.declared.assoc.Ended.{Ended}
 use Rattle.assoc_core.specs.declared.assoc.Next.{Next}
-use Rattle.assoc_core.specs.Closing.{Closed}
 use Rattle.assoc_core.specs.Plain.{IsPlainRecord, owed_c, owed_t}
-use Rattle.assoc_core.specs.Stands.{Holds, HoldsTarget, Stands, EndsBehind, GivesFirst}
+use Rattle.assoc_core.specs.Stands.{Holds, HoldsTarget, EndsBehind, GivesFirst}
 use Rattle.assoc_core.specs.Turns.{Acts, event_of, context, links, Turns, GoesOn, left_of, mark_of, StopsReading, IsFull, IsThereAnd, IsUnfailing, SameOutside, SameTarget}
 use Rattle.assoc_core.proofs.LinksHeld.{short}
-use Rattle.assoc_core.proofs.PlainRecords.{DecidedForms, decided-forms, closing-phase, plain-owes-client, plain-owes-target}
+use Rattle.assoc_core.proofs.PlainRecords.{decided-forms, closing-phase, plain-owes-client, plain-owes-target}
 use Rattle.assoc_core.proofs.RelayCloses.{closes-with, rests-with}
-use Rattle.assoc_core.proofs.RelayEnds.{idle-c, idle-t, both, drop-sent, something, desk_acts}
-use Rattle.assoc_core.proofs.RelayRecords.{plain-tcp}
+use Rattle.assoc_core.proofs.RelayEnds.{idle-c, idle-t, both, drop-sent, something}
 use Rattle.assoc_core.proofs.RelayTurns.{IsDesk, desk-dials, desk-plan, desk-outer}
 
 -- what such a turn does

@@ -1,8 +1,7 @@
 -- What links hold behind reads and writes.
-use Rattle.std.proofs.Common.{◌≡◌, ◌<◌, ◌≤◌, ℕ, Bool, true, false, ◌||◌, Option, Some, None, List, [], ◌++◌, length, refl, ap, sym, subst, ◌∙◌, arith, length-append}
-use mathlib.Core.List.{IsPrefix}
-use Rattle.net_ends.specs.Counts.{Counts, Later, Rose}
-use Rattle.net_ends.specs.Told.{Told, Arrival, more}
+use Rattle.std.proofs.Common.{◌≡◌, ◌<◌, ℕ, Bool, ◌||◌, Option, Some, None, List, ◌++◌, length, refl, ap, sym, subst, ◌∙◌, arith, length-append}
+use Rattle.net_ends.specs.Counts.{Counts}
+use Rattle.net_ends.specs.Told.{Told, more}
 use Rattle.assoc_core.specs.declared.carry.Give.{Give}
 use Rattle.assoc_core.specs.declared.carry.Take.{Take}
 use Rattle.assoc_core.specs.Carrying.{TakesPart, GivesPart}

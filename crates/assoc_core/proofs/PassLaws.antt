@@ -1,14 +1,12 @@
 -- What the steps of one pass over a relay tell.
-use Rattle.std.proofs.Common.{◌≡◌, ℕ, ◌<◌, ◌≤◌, ◌⊎◌, inl, inr, Bool, true, false, ◌&&◌, ◌||◌, not, if◌then◌else◌, Option, Some, None, List, [], length, refl, sym, ap, subst, ◌∙◌, is_some}
-use Rattle.net_ends.specs.Counts.{Counts, Later, Rose}
+use Rattle.std.proofs.Common.{◌≡◌, ℕ, ◌<◌, ◌⊎◌, inl, inr, Bool, true, false, ◌&&◌, ◌||◌, not, if◌then◌else◌, Option, Some, None, List, [], length, refl, sym, ap, ◌∙◌, is_some}
+use Rattle.net_ends.specs.Counts.{Counts, Rose}
 use Rattle.net_ends.specs.Told.{Told}
 use Rattle.socks_machine.specs.declared.world.Object.{Object}
 use Rattle.socks_machine.specs.Settle.{is_nothing}
-use Rattle.socks_machine.specs.Turn.{quantum}
 use Rattle.assoc_core.specs.declared.carry.Give.{Give}
 use Rattle.assoc_core.specs.declared.carry.Take.{Take}
-use Rattle.assoc_core.specs.declared.relay.Pass.{Pass}
-use Rattle.assoc_core.specs.Carrying.{TakeEnds, GiveEnds, TakesPart, GivesPart, has_ended, is_read, is_sound, is_idle, is_full, is_unwritten, is_quantum, fault_of, unwritten_of, has_pending}
+use Rattle.assoc_core.specs.Carrying.{TakeEnds, GiveEnds, TakesPart, GivesPart, has_ended, is_read, is_sound, is_idle, is_full, is_unwritten, is_quantum}
 use Rattle.assoc_core.specs.Turns.{IsIdle, IsFull, StopsReading}
 use Rattle.assoc_core.proofs.RelayEnds.{some-left}
 use Rattle.assoc_core.proofs.RelaySums.{clash}

@@ -1,5 +1,5 @@
 -- The answers of a turn in a relay of the first path.
-use Rattle.std.proofs.Common.{◌≡◌, ℕ, ◌<◌, ◌⊎◌, inl, inr, Bool, true, false, ◌&&◌, ◌||◌, not, if◌then◌else◌, nat_le, Option, Some, None, List, [], ◌++◌, refl, sym, ap, subst, ◌∙◌, length, arith}
+use Rattle.std.proofs.Common.{◌≡◌, ℕ, ◌<◌, ◌⊎◌, inl, inr, Bool, true, false, ◌&&◌, ◌||◌, not, if◌then◌else◌, nat_le, Option, Some, None, List, [], refl, sym, ap, subst, ◌∙◌, length}
 use Rattle.addr_pattern.specs.declared.endpoint.Endpoint.{Endpoint}
 use Rattle.conf_model.specs.declared.config.Config.{Config}
 use Rattle.conf_model.specs.declared.user.User.{User}
@@ -11,12 +11,11 @@ use Rattle.socks_machine.specs.declared.cause.Cause.{Cause}
 use Rattle.socks_machine.specs.declared.cause.StopBy.{StopBy}
 use Rattle.socks_machine.specs.declared.lines.CloseLine.{CloseLine}
 use Rattle.socks_machine.specs.declared.lines.Line.{Line}
-use Rattle.socks_machine.specs.declared.lines.Shut.{Shut}
 use Rattle.socks_machine.specs.declared.record.Record.{Record}
 use Rattle.socks_machine.specs.declared.world.NextMark.{NextMark}
 use Rattle.socks_machine.specs.declared.world.Object.{Object}
 use Rattle.socks_machine.specs.declared.world.Outer.{Outer}
-use Rattle.socks_machine.specs.Calls.{Context, call_close, close_line, cause_of_shut, is_calling}
+use Rattle.socks_machine.specs.Calls.{call_close, close_line, cause_of_shut, is_calling}
 use Rattle.socks_machine.specs.History.{at_close}
 use Rattle.socks_machine.specs.Phase.{is_udp}
 use Rattle.socks_machine.specs.Relaying.{relayed}
@@ -25,19 +24,17 @@ use Rattle.socks_machine.specs.Turn.{turn, marked, quantum, fault_cause, is_quie
 use Rattle.assoc_core.specs.declared.assoc.Assoc.{Assoc}
 use Rattle.assoc_core.specs.declared.assoc.Ended.{Ended}
 use Rattle.assoc_core.specs.declared.assoc.Next.{Next}
-use Rattle.assoc_core.specs.declared.carry.Give.{Give}
-use Rattle.assoc_core.specs.declared.carry.Take.{Take}
 use Rattle.assoc_core.specs.declared.relay.Pass.{Pass}
 use Rattle.assoc_core.specs.Carrying.{Passes, has_ended, is_read, is_sound, is_idle, is_full, is_unwritten, is_quantum, fault_of, unwritten_of, has_pending, took_quantum}
 use Rattle.assoc_core.specs.Closing.{Closed}
 use Rattle.assoc_core.specs.Plain.{IsPlainRecord}
 use Rattle.assoc_core.specs.Stands.{Stands}
-use Rattle.assoc_core.specs.Turns.{event_of, context, Turns, GoesOn, left_of, mark_of}
-use Rattle.assoc_core.proofs.PassLaws.{ended-of, idle-of, unread-of, source-of, end-of, full-of, unsound-of, unwritten-left, sent-of, nothing-of, FaultTells, fault-tells, sound-written}
+use Rattle.assoc_core.specs.Turns.{event_of, context, Turns, mark_of}
+use Rattle.assoc_core.proofs.PassLaws.{ended-of, unread-of, source-of, end-of, unsound-of, unwritten-left, sent-of, nothing-of, FaultTells, fault-tells, sound-written}
 use Rattle.assoc_core.proofs.RelayEnds.{InRelay, InFault, FailsSide, FailsOn, Resting, goes-again, goes-waiting, Failed, fails, fault_acts, both, some-left}
 use Rattle.assoc_core.proofs.RelayCloses.{closes-with, rests-with, pending-none, sinks-by, finishes}
-use Rattle.assoc_core.proofs.RelayRecords.{is-relayed, plain-tcp}
-use Rattle.assoc_core.proofs.RelaySums.{clash, Sums, summed, Begun, sum_acts, shut-c, shut-t, sums-carried}
+use Rattle.assoc_core.proofs.RelayRecords.{plain-tcp}
+use Rattle.assoc_core.proofs.RelaySums.{clash, Begun, shut-c, shut-t, sums-carried}
 use Rattle.assoc_core.proofs.RelayTurns.{RelayTurn, pass_acts, pass_leaves, pass-sums, pass-leaves, relay-turns}
 
 -- ---- the close

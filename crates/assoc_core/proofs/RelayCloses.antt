@@ -1,5 +1,5 @@
 -- The ends of a turn in a relay of the first path: it closes, or waits in Closing.
-use Rattle.std.proofs.Common.{◌≡◌, ℕ, ◌-◌, ◌<◌, ◌⊎◌, inl, inr, Bool, true, false, ◌&&◌, ◌||◌, not, if◌then◌else◌, nat_le, Option, Some, None, List, [], ◌++◌, refl, sym, ap, subst, ◌∙◌, length, drop, is_some, is_none}
+use Rattle.std.proofs.Common.{◌≡◌, ℕ, ◌⊎◌, inl, inr, Bool, true, false, ◌&&◌, ◌||◌, not, if◌then◌else◌, nat_le, Option, Some, None, List, [], ◌++◌, refl, sym, ap, subst, ◌∙◌, length, is_some, is_none}
 use Rattle.addr_pattern.specs.declared.endpoint.Endpoint.{Endpoint}
 use Rattle.conf_model.specs.declared.config.Config.{Config}
 use Rattle.conf_model.specs.declared.user.User.{User}
@@ -12,24 +12,23 @@ use Rattle.socks_machine.specs.declared.world.NextMark.{NextMark}
 use Rattle.socks_machine.specs.declared.world.Object.{Object}
 use Rattle.socks_machine.specs.declared.world.Outer.{Outer}
 use Rattle.socks_machine.specs.declared.world.TurnEvent.{TurnEvent}
-use Rattle.socks_machine.specs.Basis.{Basis}
-use Rattle.socks_machine.specs.Calls.{Context, TurnResult, keep, call_close, is_calling}
+use Rattle.socks_machine.specs.Calls.{Context, keep, call_close, is_calling}
 use Rattle.socks_machine.specs.Decisions.{is_opened}
 use Rattle.socks_machine.specs.Equal.{mark_eq}
 use Rattle.socks_machine.specs.InTurn.{InTurn}
 use Rattle.socks_machine.specs.Owed.{pending_to_client, pending_to_target}
 use Rattle.socks_machine.specs.Phase.{Phase, phase}
 use Rattle.socks_machine.specs.Relaying.{Relaying, relayed, due_c, due_t}
-use Rattle.socks_machine.specs.Settle.{fix, is_nothing}
+use Rattle.socks_machine.specs.Settle.{is_nothing}
 use Rattle.socks_machine.specs.Socks.{socks}
 use Rattle.socks_machine.specs.Taking.{holds}
-use Rattle.socks_machine.specs.Turn.{turn, aged, marked, quantum, took_quantum, rests, rests_in, sinks_rest, sources_rest, sides_rest, is_late, close_is_due, is_quiet, nothing_pending, fault_fits, fault_cause, is_mute, may_output, answer_after, Calling, times_out}
-use Rattle.socks_machine.proofs.CallLaws.{closes, closing, answers}
+use Rattle.socks_machine.specs.Turn.{turn, aged, marked, quantum, took_quantum, rests, rests_in, sinks_rest, is_late, close_is_due, is_quiet, nothing_pending, fault_fits, is_mute, may_output, answer_after, Calling, times_out}
+use Rattle.socks_machine.proofs.CallLaws.{closes, answers}
 use Rattle.socks_machine.proofs.RelayLaws.{relay-owes-c, relay-owes-t}
 use Rattle.socks_machine.proofs.StartLaws.{relay-finish-c, relay-finish-t}
 use Rattle.assoc_core.specs.Turns.{Acts, event_of, context, links}
 use Rattle.assoc_core.proofs.PlainRecords.{closing-phase}
-use Rattle.assoc_core.proofs.RelayEnds.{aged-same, never-late, InRelay, InFault, Failed, fails, fault_acts, desk_acts, owes-c, owes-t, drop-sent, idle-c, idle-t, both, opened-by, in-phase}
+use Rattle.assoc_core.proofs.RelayEnds.{aged-same, never-late, InRelay, desk_acts, owes-c, owes-t, drop-sent, idle-c, idle-t, both, opened-by, in-phase}
 use Rattle.assoc_core.proofs.RelayRecords.{is-relayed, plain-relay-facts}
 use Rattle.assoc_core.proofs.RelaySums.{Sums, summed, Begun, sum_acts, relays, shut-c, shut-t, all-sent, clash}
 

@@ -1,7 +1,6 @@
 -- How a turn in a relay of the first path ends.
-use Rattle.std.proofs.Common.{◌≡◌, ℕ, ◌+◌, ◌-◌, ◌<◌, ◌≤◌, ◌⊎◌, inl, inr, Bool, true, false, ◌&&◌, ◌||◌, ◌==◌, not, if◌then◌else◌, nat_le, Option, Some, None, List, [], ◌∷◌, ◌++◌, refl, sym, ap, subst, ◌∙◌, length, drop, append_assoc, length-append, arith, is_some, is_none}
+use Rattle.std.proofs.Common.{◌≡◌, ℕ, ◌-◌, ◌<◌, ◌⊎◌, inl, inr, Bool, true, false, ◌&&◌, ◌||◌, ◌==◌, not, if◌then◌else◌, nat_le, Option, Some, List, [], ◌∷◌, ◌++◌, refl, sym, ap, subst, ◌∙◌, length, drop, append_assoc, arith}
 use Rattle.std.proofs.lemmas.Bool.{lt-leb}
-use Rattle.std.proofs.lemmas.List.{append-nil}
 use Rattle.std.proofs.Math.Seq.{drop-append_seam}
 use Rattle.addr_pattern.specs.declared.endpoint.Endpoint.{Endpoint}
 use Rattle.conf_model.specs.declared.config.Config.{Config}
@@ -10,33 +9,30 @@ use Rattle.conf_model.specs.Plain.{IsPlain}
 use Rattle.socks_machine.specs.declared.cause.Cause.{Cause}
 use Rattle.socks_machine.specs.declared.cause.StopBy.{StopBy}
 use Rattle.socks_machine.specs.declared.lines.Line.{Line}
-use Rattle.socks_machine.specs.declared.record.Decision.{Decision}
 use Rattle.socks_machine.specs.declared.record.Record.{Record}
 use Rattle.socks_machine.specs.declared.world.NextMark.{NextMark}
 use Rattle.socks_machine.specs.declared.world.Object.{Object}
 use Rattle.socks_machine.specs.declared.world.Outer.{Outer}
 use Rattle.socks_machine.specs.declared.world.TurnEvent.{TurnEvent}
 use Rattle.socks_machine.specs.Basis.{Basis}
-use Rattle.socks_machine.specs.Calls.{Context, TurnResult, keep, call_close}
+use Rattle.socks_machine.specs.Calls.{Context, keep}
 use Rattle.socks_machine.specs.Decisions.{reached_at, granted, is_opened}
-use Rattle.socks_machine.specs.InTurn.{InTurn, Reading}
+use Rattle.socks_machine.specs.InTurn.{InTurn}
 use Rattle.socks_machine.specs.Owed.{owed_to_client, owed_to_target, pending_to_client, pending_to_target, waiting_for_target, waiting_for_client}
-use Rattle.socks_machine.specs.Phase.{Phase, phase, began, relay_began, relay_began_in}
-use Rattle.socks_machine.specs.Relaying.{RelayFacts, Relaying, MayTake, MayShut, relayed, due_c, due_t}
+use Rattle.socks_machine.specs.Phase.{Phase, phase, began, relay_began}
+use Rattle.socks_machine.specs.Relaying.{RelayFacts, Relaying, relayed}
 use Rattle.socks_machine.specs.Settle.{fix, first_cause, is_nothing}
 use Rattle.socks_machine.specs.Socks.{socks}
-use Rattle.socks_machine.specs.Taking.{holds, some_in}
-use Rattle.socks_machine.specs.View.{view}
-use Rattle.socks_machine.specs.Turn.{turn, aged, marked, moves, quantum, took_quantum, rests, rests_in, sinks_rest, sources_rest, sides_rest, source_rests, is_late, limit, client_may_be_shut, target_may_be_shut, close_is_due, is_quiet, nothing_pending, fault_fits, fault_cause, may_fail, may_write, has_pending, may_be_shut, reads_in, with_memory, is_there}
-use Rattle.socks_machine.proofs.RelayLaws.{relaying-reads, relay-owes-c, relay-owes-t, alike, began-same, relay-owes-caused}
+use Rattle.socks_machine.specs.Taking.{holds}
+use Rattle.socks_machine.specs.Turn.{turn, aged, moves, quantum, took_quantum, rests, rests_in, sinks_rest, sources_rest, sides_rest, is_late, fault_fits, fault_cause, may_fail, may_write, has_pending, may_be_shut, reads_in, is_there}
+use Rattle.socks_machine.proofs.RelayLaws.{relaying-reads, alike, began-same, relay-owes-caused}
 use Rattle.socks_machine.proofs.WaitLaws.{again, waits}
-use Rattle.socks_machine.proofs.CallLaws.{closes, closing}
-use Rattle.socks_machine.proofs.StartLaws.{relay-fails, relay-finish-c, relay-finish-t}
-use Rattle.assoc_core.specs.Plain.{IsPlainRecord, owed_c, owed_t, plain_to_client, prelude}
+use Rattle.socks_machine.proofs.StartLaws.{relay-fails}
+use Rattle.assoc_core.specs.Plain.{IsPlainRecord}
 use Rattle.assoc_core.specs.Turns.{Acts, event_of, context, links}
-use Rattle.assoc_core.proofs.PlainRecords.{DecidedForms, decided-forms, plain-owes-client, plain-owes-target}
-use Rattle.assoc_core.proofs.RelayRecords.{carried, IsRelayed, is-relayed, plain-relay-facts}
-use Rattle.assoc_core.proofs.RelaySums.{clash, Sums, summed, Begun, sum_acts, relays, sent-c, sent-t, sums-carried, sent-on, all-sent}
+use Rattle.assoc_core.proofs.PlainRecords.{decided-forms, plain-owes-client, plain-owes-target}
+use Rattle.assoc_core.proofs.RelayRecords.{plain-relay-facts}
+use Rattle.assoc_core.proofs.RelaySums.{Sums, summed, Begun, sum_acts, relays, sent-c, sent-t, sums-carried}
 
 -- ---- the moment
 

@@ -1,5 +1,5 @@
 -- The records of a relay of the first path: what the definitions say of them, and that a turn keeps their form.
-use Rattle.std.proofs.Common.{◌≡◌, ℕ, ◌+◌, ◌≤◌, Bool, true, false, ◌&&◌, ◌||◌, ◌==◌, if◌then◌else◌, Option, Some, None, List, [], ◌∷◌, ◌++◌, refl, sym, ap, subst, ◌∙◌, is_some, is_none, length, drop, append_assoc, length-append, arith}
+use Rattle.std.proofs.Common.{◌≡◌, ℕ, ◌≤◌, Bool, true, false, ◌&&◌, ◌==◌, Option, Some, None, List, [], ◌∷◌, ◌++◌, refl, sym, ap, subst, ◌∙◌, length, arith}
 use Rattle.std.proofs.lemmas.List.{append-nil}
 use mathlib.Core.List.{IsPrefix}
 use Rattle.addr_pattern.specs.declared.endpoint.Endpoint.{Endpoint}
@@ -18,19 +18,19 @@ use Rattle.socks_machine.specs.declared.record.Chosen.{Chosen}
 use Rattle.socks_machine.specs.declared.record.Decision.{Decision}
 use Rattle.socks_machine.specs.declared.record.Record.{Record}
 use Rattle.socks_machine.specs.Calls.{Context}
-use Rattle.socks_machine.specs.Decisions.{granted, reached_at}
+use Rattle.socks_machine.specs.Decisions.{reached_at}
 use Rattle.socks_machine.specs.Front.{Proxy}
 use Rattle.socks_machine.specs.Owed.{has_target, target_by}
-use Rattle.socks_machine.specs.Phase.{Phase, phase, way, began_by, relay_began, prelude_length, is_udp}
+use Rattle.socks_machine.specs.Phase.{way, began_by, relay_began, prelude_length, is_udp}
 use Rattle.socks_machine.specs.Relaying.{RelayFacts}
 use Rattle.socks_machine.specs.Served.{is_served_input, is_whole_input}
 use Rattle.socks_machine.specs.Socks.{socks}
-use Rattle.socks_machine.specs.View.{proxy_of, proxy_in, outcome_with, asks_login}
+use Rattle.socks_machine.specs.View.{outcome_with}
 use Rattle.socks_machine.proofs.SocksRelay.{relay-facts}
-use Rattle.assoc_core.specs.Plain.{IsPlainRecord, HasChosen, HasDecided, Dialled, Untargeted, owed_c, owed_t, plain_to_client, plain_to_target, is_greeted, prelude}
+use Rattle.assoc_core.specs.Plain.{IsPlainRecord, HasChosen, HasDecided, Dialled, owed_c, owed_t, plain_to_client, is_greeted, prelude}
 use Rattle.assoc_core.specs.Preludes.{IsConnect}
 use Rattle.assoc_core.specs.Turns.{context}
-use Rattle.assoc_core.proofs.PlainRecords.{DecidedForms, decided-forms, no-proxy, direct_grant, whole-connect, connect-length, relay-phase}
+use Rattle.assoc_core.proofs.PlainRecords.{decided-forms, no-proxy, direct_grant, whole-connect, connect-length, relay-phase}
 
 -- ---- the client's bytes behind a whole request
 

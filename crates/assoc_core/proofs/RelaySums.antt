@@ -1,5 +1,5 @@
 -- What one turn carries in a relay of the first path, in sums.
-use Rattle.std.proofs.Common.{◌≡◌, ℕ, ◌+◌, ◌≤◌, Bool, true, false, ◌&&◌, ◌||◌, Option, Some, None, List, [], ◌∷◌, ◌++◌, refl, sym, ap, subst, ◌∙◌, length, drop, append_assoc, length-append, arith}
+use Rattle.std.proofs.Common.{◌≡◌, ℕ, ◌≤◌, Bool, true, false, ◌&&◌, ◌||◌, Option, Some, None, List, [], ◌∷◌, ◌++◌, refl, sym, ap, ◌∙◌, length, drop, append_assoc, length-append, arith}
 use Rattle.std.proofs.lemmas.List.{append-nil, drop-append-le}
 use Rattle.std.proofs.Math.Seq.{drop-append_seam}
 use mathlib.Core.List.{IsPrefix}
@@ -16,21 +16,17 @@ use Rattle.socks_machine.specs.declared.record.Chosen.{Chosen}
 use Rattle.socks_machine.specs.declared.record.Record.{Record}
 use Rattle.socks_machine.specs.declared.world.NextMark.{NextMark}
 use Rattle.socks_machine.specs.declared.world.Outer.{Outer}
-use Rattle.socks_machine.specs.declared.world.TurnEvent.{TurnEvent}
 use Rattle.socks_machine.specs.Calls.{Context}
 use Rattle.socks_machine.specs.Decisions.{reached_at}
-use Rattle.socks_machine.specs.InTurn.{Sends}
-use Rattle.socks_machine.specs.Owed.{owed_to_client, owed_to_target}
-use Rattle.socks_machine.specs.Relaying.{RelayFacts, Relaying, MayTake, MayShut, due_c, due_t}
-use Rattle.socks_machine.specs.Socks.{socks, chosen_reply, success}
+use Rattle.socks_machine.specs.Relaying.{RelayFacts, Relaying, MayTake, due_c, due_t}
+use Rattle.socks_machine.specs.Socks.{chosen_reply, success}
 use Rattle.socks_machine.specs.Taking.{some_in}
 use Rattle.socks_machine.proofs.RelayLaws.{relay-owes-c, relay-owes-t}
 use Rattle.socks_machine.proofs.TakeLaws.{nothing-in}
 use Rattle.assoc_core.specs.Plain.{IsPlainRecord, owed_c, owed_t, plain_to_client, plain_to_target, prelude}
-use Rattle.assoc_core.specs.Preludes.{IsConnect}
 use Rattle.assoc_core.specs.Turns.{Acts, event_of, context}
 use Rattle.assoc_core.proofs.PlainRecords.{plain-owes-client, plain-owes-target}
-use Rattle.assoc_core.proofs.RelayRecords.{carried, IsCarried, IsRelayed, is-relayed, carried-plain, connect-version, connect-long, plain-relay-facts}
+use Rattle.assoc_core.proofs.RelayRecords.{carried, IsRelayed, is-relayed, carried-plain, connect-version, connect-long, plain-relay-facts}
 
 -- ---- lists
 

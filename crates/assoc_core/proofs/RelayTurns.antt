@@ -1,12 +1,11 @@
 -- A turn in a relay of the first path, whole.
-use Rattle.std.proofs.Common.{◌≡◌, ℕ, ◌+◌, ◌-◌, ◌<◌, ◌≤◌, ◌⊎◌, inl, inr, Bool, true, false, ◌&&◌, ◌||◌, not, if◌then◌else◌, nat_le, Option, Some, None, List, [], ◌∷◌, ◌++◌, refl, sym, ap, subst, ◌∙◌, length, drop, length-append, arith, is_some}
-use mathlib.Core.List.{IsPrefix}
+use Rattle.std.proofs.Common.{◌≡◌, ℕ, ◌-◌, ◌<◌, inl, inr, Bool, true, false, ◌&&◌, ◌||◌, not, if◌then◌else◌, Option, Some, None, List, [], ◌++◌, refl, sym, ap, subst, ◌∙◌, length, drop, length-append, arith, is_some}
 use Rattle.addr_pattern.specs.declared.endpoint.Endpoint.{Endpoint}
 use Rattle.conf_model.specs.declared.config.Config.{Config}
 use Rattle.conf_model.specs.declared.user.User.{User}
-use Rattle.net_ends.specs.Counts.{Counts, Later, Rose}
+use Rattle.net_ends.specs.Counts.{Counts, Rose}
 use Rattle.net_ends.specs.Nets.{NetTold, Dial}
-use Rattle.net_ends.specs.Told.{Told, more}
+use Rattle.net_ends.specs.Told.{Told}
 use Rattle.socks_machine.specs.declared.cause.Cause.{Cause}
 use Rattle.socks_machine.specs.declared.cause.StopBy.{StopBy}
 use Rattle.socks_machine.specs.declared.lines.Line.{Line}
@@ -14,35 +13,31 @@ use Rattle.socks_machine.specs.declared.record.Record.{Record}
 use Rattle.socks_machine.specs.declared.world.NextMark.{NextMark}
 use Rattle.socks_machine.specs.declared.world.Object.{Object}
 use Rattle.socks_machine.specs.declared.world.Outer.{Outer}
-use Rattle.socks_machine.specs.declared.world.TurnEvent.{TurnEvent}
 use Rattle.socks_machine.specs.Basis.{Basis}
-use Rattle.socks_machine.specs.Calls.{Context, TurnResult}
-use Rattle.socks_machine.specs.Decisions.{reached_at, granted}
+use Rattle.socks_machine.specs.Calls.{Context}
+use Rattle.socks_machine.specs.Decisions.{granted}
 use Rattle.socks_machine.specs.InTurn.{Takes, takings}
 use Rattle.socks_machine.specs.Owed.{owed_to_client, owed_to_target, waiting_for_target, waiting_for_client, replies_in, has_target, refusal_of_in}
-use Rattle.socks_machine.specs.Phase.{Phase, phase, relay_began, relay_began_in, client_payload_in, target_payload_in, is_udp}
-use Rattle.socks_machine.specs.Relaying.{RelayFacts, Relaying, MayTake, relayed}
+use Rattle.socks_machine.specs.Phase.{Phase, phase, relay_began, relay_began_in, client_payload_in, target_payload_in}
+use Rattle.socks_machine.specs.Relaying.{RelayFacts, relayed}
 use Rattle.socks_machine.specs.Script.{without_ends}
-use Rattle.socks_machine.specs.Socks.{socks}
-use Rattle.socks_machine.specs.Taking.{taken, reads_client, reads_target, some_in, pipe_size}
-use Rattle.socks_machine.specs.Turn.{turn, quantum}
-use Rattle.socks_machine.specs.View.{View, view}
+use Rattle.socks_machine.specs.Taking.{reads_client, reads_target, pipe_size}
+use Rattle.socks_machine.specs.Turn.{turn}
+use Rattle.socks_machine.specs.View.{view}
 use Rattle.socks_machine.proofs.RelayLaws.{relaying-reads, began-same}
 use Rattle.socks_machine.proofs.TurnStages.{takes-is}
 use Rattle.assoc_core.specs.declared.assoc.Assoc.{Assoc}
 use Rattle.assoc_core.specs.declared.assoc.Next.{Next}
-use Rattle.assoc_core.specs.declared.carry.Give.{Give}
-use Rattle.assoc_core.specs.declared.carry.Take.{Take}
 use Rattle.assoc_core.specs.declared.relay.Pass.{Pass}
-use Rattle.assoc_core.specs.Carrying.{Passes, TakesPart, GivesPart, has_ended, is_read, is_sound, is_idle, is_full, is_unwritten, is_quantum, fault_of, unwritten_of}
+use Rattle.assoc_core.specs.Carrying.{Passes, is_read, is_sound, is_idle, is_full, fault_of, unwritten_of}
 use Rattle.assoc_core.specs.Plain.{IsPlainRecord, owed_c, owed_t, prelude}
-use Rattle.assoc_core.specs.Stands.{Holds, HoldsTarget, Stands, EndsBehind, GivesFirst}
-use Rattle.assoc_core.specs.Turns.{Acts, event_of, context, links, Turns, GoesOn, left_of, mark_of, DialsAre, PlanStays, IsOuterOf, StopsReading, Unread, ReadsEnd, IsIdle, IsFull, IsThereAnd, IsUnfailing, SameOutside, SameTarget}
+use Rattle.assoc_core.specs.Stands.{Holds, HoldsTarget, Stands}
+use Rattle.assoc_core.specs.Turns.{Acts, event_of, context, links, Turns, GoesOn, left_of, mark_of, DialsAre, PlanStays, IsOuterOf, IsIdle, IsFull, IsThereAnd, IsUnfailing, SameTarget}
 use Rattle.assoc_core.proofs.LinksHeld.{holds-taken, holds-given, ends-given, first-given, idle-given, full-taken, outside-given, outside-taken, outside-on, short}
-use Rattle.assoc_core.proofs.PassLaws.{ended-of, idle-of, unread-of, stops-of, source-of, end-of, full-of, unsound-of, unwritten-left, sent-of, nothing-of, first_fault, FaultTells, fault-tells, fault-none, fault-unread, fault-read, fault-first, sound-written}
+use Rattle.assoc_core.proofs.PassLaws.{ended-of, idle-of, unread-of, stops-of, full-of, unsound-of, sent-of, FaultTells, fault-tells, fault-none, fault-unread, fault-read, fault-first, sound-written}
 use Rattle.assoc_core.proofs.PlainRecords.{plain-owes-client, plain-owes-target}
-use Rattle.assoc_core.proofs.RelayEnds.{InRelay, in-phase, fault_acts}
-use Rattle.assoc_core.proofs.RelayRecords.{carried, IsRelayed, is-relayed, plain-relay-facts}
+use Rattle.assoc_core.proofs.RelayEnds.{in-phase}
+use Rattle.assoc_core.proofs.RelayRecords.{is-relayed, plain-relay-facts}
 use Rattle.assoc_core.proofs.RelaySums.{clash, Sums, summed, Begun, sum_acts, relays, sent-c, sent-t, sums-carried, all-sent}
 use Rattle.assoc_core.proofs.Sendings.{rose-before, rose-after}
 

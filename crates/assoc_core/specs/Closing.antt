@@ -4,7 +4,6 @@ use Rattle.socks_machine.specs.declared.cause.Cause.{Cause}
 use Rattle.socks_machine.specs.declared.cause.StopBy.{StopBy}
 use Rattle.socks_machine.specs.declared.lines.Line.{Line}
 use Rattle.socks_machine.specs.declared.lines.Shut.{Shut}
-use Rattle.socks_machine.specs.declared.record.Record.{Record}
 use Rattle.socks_machine.specs.Calls.{close_line, cause_of_shut}
 use Rattle.session_desk.specs.Calls.{Closes}
 use Rattle.assoc_core.specs.declared.assoc.Assoc.{Assoc}

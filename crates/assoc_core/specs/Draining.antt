@@ -1,10 +1,10 @@
 -- What a turn in Closing sends.
-use Rattle.std.specs.Prelude.{ℕ, ◌≡◌, Bool, true, false, ◌&&◌, ◌||◌, not, Option, Some, None, List, length, drop}
+use Rattle.std.specs.Prelude.{◌≡◌, true, false, Option, Some, None, length, drop}
 use Rattle.net_ends.specs.Counts.{Counts}
 use Rattle.net_ends.specs.Told.{Told}
 use Rattle.socks_machine.specs.declared.record.Record.{Record}
 use Rattle.assoc_core.specs.declared.carry.Give.{Give}
-use Rattle.assoc_core.specs.Carrying.{GivesPart, is_full}
+use Rattle.assoc_core.specs.Carrying.{GivesPart}
 use Rattle.assoc_core.specs.Plain.{prelude, owed_c}
 
 -- what is pending was sent to the client

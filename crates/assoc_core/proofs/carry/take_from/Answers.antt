@@ -1,4 +1,4 @@
-use Rattle.std.proofs.Common.{◌≡◌, ◌∙◌, ap, refl}
+use Rattle.std.proofs.Common.{◌∙◌, ap, refl}
 use Rattle.net_ends.specs.Told.{Told}
 use Rattle.assoc_core.proofs.Carryings.{starts, goes-on, unread, stops, fills-quantum, ends-now, fewer}
 use Rattle.assoc_core.proofs.Sendings.{rose-before}

@@ -1,4 +1,4 @@
-use Rattle.std.proofs.Common.{◌≡◌, refl, ap, sym, ◌∙◌, true, ◌&&◌, drop, length}
+use Rattle.std.proofs.Common.{refl, ap, sym, ◌∙◌, true, ◌&&◌, drop, length}
 use Rattle.assoc_core.specs.Carrying.{is_read, is_sound}
 use Rattle.assoc_core.proofs.Carryings.{unread, held, gives-as, takes-as, was-read}
 use Rattle.assoc_core.proofs.relay.carry_both.Goals as goal

@@ -1,4 +1,4 @@
-use Rattle.std.proofs.Common.{◌≡◌, refl, sym, ◌∙◌, inl, inr}
+use Rattle.std.proofs.Common.{refl, sym, ◌∙◌, inl, inr}
 use Rattle.assoc_core.specs.declared.assoc.Assoc.{Assoc}
 use Rattle.assoc_core.specs.Closing.{Closed}
 use Rattle.assoc_core.proofs.DrainAnswers.{client-failed, target-failed, drain-done, drain-rests, client-tcp, target-tcp, or-left, or-right}

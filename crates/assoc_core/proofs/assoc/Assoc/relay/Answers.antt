@@ -1,9 +1,7 @@
-use Rattle.std.proofs.Common.{◌≡◌, refl, sym, ap, ◌∙◌, Some, ◌||◌}
+use Rattle.std.proofs.Common.{refl, sym, ap, ◌∙◌, Some}
 use Rattle.socks_machine.specs.declared.cause.Cause.{Cause}
-use Rattle.socks_machine.specs.declared.record.Record.{Record}
 use Rattle.socks_machine.specs.declared.world.Object.{Object}
 use Rattle.assoc_core.specs.declared.assoc.Assoc.{Assoc}
-use Rattle.assoc_core.specs.Carrying.{fault_of, unwritten_of}
 use Rattle.assoc_core.specs.Closing.{Closed}
 use Rattle.assoc_core.proofs.RelayAnswers.{relay-again, relay-waits, relay-finishes, fault-closes, fault-waits, fault-again, done-turn, mid-tcp, none-written, not-both, both-shut, over-due, over-written, client-closes}
 use Rattle.assoc_core.proofs.assoc.Assoc.relay.Goals as goal
