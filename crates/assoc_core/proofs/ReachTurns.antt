@@ -1,5 +1,5 @@
 -- What a turn that dials comes to.
-use Rattle.std.proofs.Common.{◌≡◌, ℕ, ◌<◌, ◌≤◌, Bool, true, false, ◌&&◌, ◌||◌, not, Option, Some, None, List, [], ◌∷◌, ◌++◌, length, drop, refl, sym, ap, subst, ◌∙◌, is_some, length-append, append_assoc, arith}
+use Rattle.std.proofs.Common.{◌≡◌, ℕ, ◌+◌, ◌<◌, ◌≤◌, Bool, true, false, ◌&&◌, ◌||◌, not, Option, Some, None, List, [], ◌∷◌, ◌++◌, length, drop, refl, sym, ap, subst, ◌∙◌, is_some, length-append, append_assoc, arith}
 use Rattle.std.proofs.lemmas.List.{append-nil}
 use mathlib.Core.List.{IsPrefix}
 use Rattle.addr_pattern.specs.declared.endpoint.Endpoint.{Endpoint}
@@ -147,3 +147,216 @@ sends-as d o y_c rest_c sent_c rest_t sent_t fault unwritten k = record {
   faults = faults-as d o rest_c rest_t fault unwritten k.failing;
   fits = fits-as d o y_c rest_c sent_c rest_t sent_t fault unwritten k k.failing;
 }
+
+-- ---- from what was dialled
+
+pub judged-of : (r : Record) (ds : List Decision) (g : ℕ) (rule : Option ℕ) (g' : ℕ) (facts : Facts) (verdict : Verdict)
+    → ds ≡ Decision.Opened g rule None ∷ Decision.Granted g' facts verdict None None ∷ [] → HasDecided r ds → Judged r facts None
+judged-of r ds g rule g' facts verdict is h = subst (HasDecided r) is h
+
+pub judged-in : {L : Type 0} (told : L → Told) (net net' : NetTold) (now : ℕ) (a b : Assoc L) (o : DialOutcome) (k : HasDialled told net net' now a b o) → Judged a.state k.facts None
+judged-in told net net' now a b o k = judged-of a.state (a.state).decisions k.g k.rule k.g' k.facts k.verdict k.granted' ((k.stands).plain).decided
+
+abbrev pub dialling_of : {L : Type 0} (told : L → Told) (users : List User) (pubs : List Config) (generation : ℕ) (config : Config) (most : ℕ) (h : List Line) (marks : List StopBy)
+    (net net' : NetTold) (now : ℕ) (a b : Assoc L) (o : DialOutcome) → HasDialled told net net' now a b o → Dialling
+dialling_of told users pubs generation config most h marks net net' now a b o k = record {
+  users = users;
+  pubs = pubs;
+  generation = generation;
+  config = config;
+  most = most;
+  h = h;
+  marks = marks;
+  party = record { number = (a.state).number; peer = (a.state).peer; local = (a.state).local; since = now };
+  g = k.g;
+  rule = k.rule;
+  g' = k.g';
+  asked = k.facts;
+  verdict = k.verdict;
+  c = (a.state).c;
+  sent = (a.state).sent_c;
+  chosen = (a.state).chosen;
+  served = ((k.stands).plain).served;
+  chosen' = ((k.stands).plain).chosen';
+  whole = (judged-in told net net' now a b o k).whole;
+  version = (judged-in told net net' now a b o k).version;
+  sent' = subst (λ (ds : List Decision). IsPrefix (a.state).sent_c (owed_c (let r = a.state in record r { decisions = ds; cause = None }))) k.granted'
+      (subst (λ (o : Option Cause). IsPrefix (a.state).sent_c (owed_c (let r = a.state in record r { cause = o }))) k.uncaused ((k.stands).plain).sent_c);
+}
+
+before-is : {L : Type 0} (told : L → Told) (users : List User) (pubs : List Config) (generation : ℕ) (config : Config) (most : ℕ) (h : List Line) (marks : List StopBy)
+    (net net' : NetTold) (now : ℕ) (a b : Assoc L) (o : DialOutcome) (k : HasDialled told net net' now a b o)
+    → a.state ≡ before (dialling_of told users pubs generation config most h marks net net' now a b o k)
+before-is told users pubs generation config most h marks net net' now a b o k = λ i. record {
+  number = (a.state).number;
+  peer = (a.state).peer;
+  local = (a.state).local;
+  since = k.since i;
+  c = (a.state).c;
+  t = (j.untargeted).t i;
+  sent_c = (a.state).sent_c;
+  sent_t = (j.untargeted).sent_t i;
+  end_c = j.unended i;
+  end_t = (j.untargeted).end_t i;
+  shut_c = (j.untargeted).shut_c i;
+  shut_t = (j.untargeted).shut_t i;
+  chosen = (a.state).chosen;
+  decisions = (k.granted' ∙ (λ n. Decision.Opened k.g k.rule None ∷ Decision.Granted k.g' (let f = k.facts in record f { command = j.command n }) k.verdict None None ∷ [])) i;
+  grams = ((k.stands).plain).grams i;
+  sent_u = ((k.stands).plain).sent_u i;
+  cause = k.uncaused i;
+  at_close = ((k.stands).plain).unclosed i;
+  done = ((k.stands).plain).undone i;
+}
+  where
+    j : Judged a.state k.facts None
+    j = judged-in told net net' now a b o k
+
+pub behind-is : {L : Type 0} (told : L → Told) (users : List User) (pubs : List Config) (generation : ℕ) (config : Config) (most : ℕ) (h : List Line) (marks : List StopBy)
+    (net net' : NetTold) (now : ℕ) (a b : Assoc L) (o : DialOutcome) (k : HasDialled told net net' now a b o)
+    → b.state ≡ behind (dialling_of told users pubs generation config most h marks net net' now a b o k) (at_of o) (a.state).sent_c [] None
+behind-is told users pubs generation config most h marks net net' now a b o k =
+    k.state' ∙ ap (λ (r : Record). let z : Record = record r { since = now; decisions = r.decisions ++ Decision.Reached (k.facts).to (at_of o) ∷ [] } in z)
+    (before-is told users pubs generation config most h marks net net' now a b o k)
+
+-- ---- the dial
+
+dials-as : (o : DialOutcome) (old new : Option (List Dial)) (g : Grant) → new ≡ dialled old (record { to = (g.facts).to; outcome = o }) → DialsAre old new (Phase.Reach g) (outer_of o)
+dials-as (DialOutcome.CameUp local) old new g h = (DialOutcome.CameUp local, refl, h)
+dials-as DialOutcome.WasRefused old new g h = (DialOutcome.WasRefused, refl, h)
+dials-as DialOutcome.NoHost old new g h = (DialOutcome.NoHost, refl, h)
+dials-as DialOutcome.NoNet old new g h = (DialOutcome.NoNet, refl, h)
+dials-as DialOutcome.Fault old new g h = (DialOutcome.Fault, refl, h)
+
+plan-as : (o : DialOutcome) (net net' : NetTold) (b : Bool) → b ≡ true → PlanStays net net' (outer_of o) b
+plan-as (DialOutcome.CameUp local) net net' b h = h
+plan-as DialOutcome.WasRefused net net' b h = h
+plan-as DialOutcome.NoHost net net' b h = h
+plan-as DialOutcome.NoNet net net' b h = h
+plan-as DialOutcome.Fault net net' b h = h
+
+outer-as : (d : Dialling) (o : DialOutcome) (net : NetTold) → ((plan : Plan) → net.plan ≡ Some plan → o ≡ plan.outcome) → IsOuterOf net (Phase.Reach (grant_of d)) (outer_of o)
+outer-as d (DialOutcome.CameUp local) net h = (refl, λ plan e. ap outer_of (h plan e))
+outer-as d DialOutcome.WasRefused net h = (refl, λ plan e. ap outer_of (h plan e))
+outer-as d DialOutcome.NoHost net h = (refl, λ plan e. ap outer_of (h plan e))
+outer-as d DialOutcome.NoNet net h = (refl, λ plan e. ap outer_of (h plan e))
+outer-as d DialOutcome.Fault net h = (refl, λ plan e. ap outer_of (h plan e))
+
+-- ---- its links
+
+more-is : (o : Option (List ℕ)) (held part x : List ℕ) → ((y : List ℕ) → o ≡ Some y → y ≡ held) → more o part ≡ Some x → x ≡ held ++ part
+more-is None held part x h e = absurd (cc)
+more-is (Some y) held part x h e = sym (some-is e) ∙ ap (λ z. z ++ part) (h y refl)
+  where
+    some-is : Some (y ++ part) ≡ Some x → y ++ part ≡ x
+    some-is k = cc
+
+abbrev pub told_taken : Told → List ℕ → Told
+told_taken told y = record told { taken = more told.taken y }
+
+holds-taken : (told : Told) (c sent y : List ℕ) (ended shut : Bool) → Holds told c sent ended shut → Holds (told_taken told y) c (sent ++ y) ended shut
+holds-taken told c sent y ended shut h = record {
+  given' = h.given';
+  taken' = λ z e. more-is told.taken sent y z h.taken' e;
+  ended' = h.ended';
+  shut' = h.shut';
+}
+
+-- a link that is new, and has taken y
+pub holds-new : (told : Told) (y : List ℕ) → IsFresh told → Holds (told_taken told y) [] y false false × EndsBehind (told_taken told y) × GivesFirst (told_taken told y)
+holds-new told y f = (
+  record { given' = f.given; taken' = λ z e. more-is told.taken [] y z f.taken e; ended' = f.unended; shut' = f.unshut },
+  λ arrival given e1 e2 ended. absurd (never (sym ended ∙ f.unended)),
+  λ arrival given e1 e2. (arrival.bytes, ap (λ z. z ++ arrival.bytes) (f.given given e2)),
+)
+  where
+    never : true ≡ false → ⊥
+    never e = cc
+
+-- no target is there before
+pub target-none : {L : Type 0} (told : L → Told) (r : Record) (target : Option L) → reached_at r.decisions ≡ None → HoldsTarget told r target → target ≡ None
+target-none told r None none h = refl
+target-none told r (Some link) none h = absurd (clash (sym none ∙ h.0.1))
+  where
+    clash : None ≡ Some h.0.0 → ⊥
+    clash e = cc
+
+-- ---- the turn
+
+-- all that a turn that dials comes to
+pub record Reaches {L : Type 0} (told : L → Told) (counts : L → Counts) (d : Dialling) (net net' : NetTold) (a z : Assoc L) (o : DialOutcome)
+    (y_c rest_c rest_t : List ℕ) (full_c full_t : Bool) (fault : Option Object) (unwritten : Bool) : Type 0 where
+  pub state' : z.state ≡ behind d (at_of o) (d.sent ++ y_c) (z.state).sent_t (with_object fault (cause_of o))
+  pub writes : ReachWrites d o y_c rest_c (d.sent ++ y_c) rest_t (z.state).sent_t fault unwritten
+  pub unsent_t : at_of o ≡ None → (z.state).sent_t ≡ []
+  pub dials : net'.dials ≡ dialled net.dials (record { to = (d.asked).to; outcome = o })
+  pub planned : (plan : Plan) → net.plan ≡ Some plan → o ≡ plan.outcome
+  pub told' : told z.client ≡ told_taken (told a.client) y_c
+  pub target' : HoldsTarget told z.state z.target
+  pub same_target : SameTarget told net a.target z.target
+  pub fills_c : full_c ≡ true → (0 < length rest_c) × IsFull (told z.client) × Rose (counts a.client).idle_writes (counts z.client).idle_writes
+  pub fills_t : full_t ≡ true → (0 < length rest_t) × IsThereAnd z.target (λ link. IsFull (told link))
+  pub fails_c : fault ≡ Some Object.Client → Rose (counts a.client).faults (counts z.client).faults
+  pub unfailing : (told a.client).unfailing ≡ true → IsUnfailing told net a.target → (fault ≡ None) × (unwritten ≡ false)
+
+pub short-of : (sent rest owed : List ℕ) → sent ++ rest ≡ owed → 0 < length rest → length sent < length owed
+short-of sent rest owed e h = omega (arith, length-append sent rest, ap (λ (z : List ℕ). length z) e)
+
+pub turns-reached : {L : Type 0} (told : L → Told) (counts : L → Counts) (d : Dialling) (net net' : NetTold) (a z : Assoc L) (o : DialOutcome)
+    (y_c rest_c rest_t : List ℕ) (full_c full_t : Bool) (fault : Option Object) (unwritten : Bool)
+    → Stands told (with_state a (before d)) → Reaches told counts d net net' a z o y_c rest_c rest_t full_c full_t fault unwritten
+    → Turns told counts (SameDesk d.h d.marks) (context_of d) (d.party).since net net' (with_state a (before d)) (Next.Again z)
+turns-reached told counts d net net' a z o y_c rest_c rest_t full_c full_t fault unwritten k h = record {
+  acts = reach_acts o (length y_c) (length (z.state).sent_t) full_c full_t fault unwritten;
+  result = record { left = x; h = d.h; marks = d.marks };
+  lawful = λ worker. reaches-on d o y_c rest_c (d.sent ++ y_c) (z.state).sent_t rest_t (z.state).sent_t full_c full_t fault unwritten worker
+      (sends-as d o y_c rest_c (d.sent ++ y_c) rest_t (z.state).sent_t fault unwritten h.writes);
+  state' = h.state';
+  desk = (refl, refl);
+  goes_on = subst IsPlainRecord (sym h.state') plain;
+  c = sym (append-nil d.c);
+  t = refl;
+  ends_c = λ e. absurd (cc);
+  ends_t = λ e. absurd (cc);
+  sent_c = length-append d.sent y_c;
+  sent_t = zero-more (length (z.state).sent_t);
+  since = refl;
+  number = refl;
+  client = subst (λ (w : Told). Holds w d.c (d.sent ++ y_c) false false) (sym h.told') (holds-taken (told a.client) d.c d.sent y_c false false k.client);
+  client_ends = subst EndsBehind (sym h.told') k.client_ends;
+  client_first = subst GivesFirst (sym h.told') k.client_first;
+  target = subst (λ (r : Record). HoldsTarget told r z.target) h.state' h.target';
+  same_client = subst (λ (w : Told). SameOutside (told a.client) w) (sym h.told') (record { arrived = refl; cap = refl; unfailing = refl });
+  same_target = h.same_target;
+  behind = before d;
+  taken' = λ worker. refl;
+  dials = subst (λ (p : Phase). DialsAre net.dials net'.dials p (outer_of o)) (sym (phase-before d)) (dials-as o net.dials net'.dials (grant_of d) h.dials);
+  plan' = plan-as o net net' _ refl;
+  outer' = subst (λ (p : Phase). IsOuterOf net p (outer_of o)) (sym (phase-before d)) (outer-as d o net h.planned);
+  stops_c = λ worker. StopsReading.unread (record { behind = before d; taken' = refl; unread' = ap (reads_client (basis_of d) [] (links full_c full_t) (before d)) (phase-before d) });
+  stops_t = λ worker. StopsReading.unread (record { behind = before d; taken' = refl; unread' = ap (reads_target (before d)) (phase-before d) });
+  reads_end_c = λ worker e. absurd (cc);
+  reads_end_t = λ worker e. absurd (cc);
+  idle_c = λ e. absurd (cc);
+  idle_t = λ e. absurd (cc);
+  full_c = λ e. ((h.fills_c e).1, (h.fills_c e).2, short-of (d.sent ++ y_c) rest_c _ owed (h.fills_c e).0);
+  full_t = λ e. ((h.fills_t e).1, short-of (z.state).sent_t rest_t _ (h.writes).all_t (h.fills_t e).0);
+  fails_c = h.fails_c;
+  unfailing = h.unfailing;
+}
+  where
+    x : Record
+    x = behind d (at_of o) (d.sent ++ y_c) (z.state).sent_t (with_object fault (cause_of o))
+
+    zero-more : (n : ℕ) → n ≡ 0 + n
+    zero-more n = omega arith
+
+    all : (d.sent ++ y_c) ++ rest_c ≡ chosen_reply d.chosen ++ (success_reply d.c (at_of o) ++ ([] ++ refusal_owed d.c (at_of o) (with_object fault (cause_of o))))
+    all = (h.writes).all_c ∙ sym (due-with d o fault)
+
+    owed : (d.sent ++ y_c) ++ rest_c ≡ chosen_reply d.chosen ++ (success_reply d.c (at_of o) ++ (payload_to_client [] (at_of o) ++ refusal_owed d.c (at_of o) (with_object fault (cause_of o))))
+    owed = all ∙ ap (λ w. chosen_reply d.chosen ++ (success_reply d.c (at_of o) ++ (w ++ refusal_owed d.c (at_of o) (with_object fault (cause_of o))))) (sym (payload-none (at_of o)))
+
+    plain : IsPlainRecord x
+    plain = plain-behind d (at_of o) (d.sent ++ y_c) (z.state).sent_t (with_object fault (cause_of o)) h.unsent_t (fails-caused o fault)
+        (rest_c, all) (rest_t, (h.writes).all_t) (payload-none (at_of o))
