@@ -228,12 +228,12 @@ dials-as DialOutcome.NoHost old new g h = (DialOutcome.NoHost, refl, h)
 dials-as DialOutcome.NoNet old new g h = (DialOutcome.NoNet, refl, h)
 dials-as DialOutcome.Fault old new g h = (DialOutcome.Fault, refl, h)
 
-plan-as : (o : DialOutcome) (net net' : NetTold) (b : Bool) → b ≡ true → PlanStays net net' (outer_of o) b
-plan-as (DialOutcome.CameUp local) net net' b h = h
-plan-as DialOutcome.WasRefused net net' b h = h
-plan-as DialOutcome.NoHost net net' b h = h
-plan-as DialOutcome.NoNet net net' b h = h
-plan-as DialOutcome.Fault net net' b h = h
+plan-as : (d : Dialling) (o : DialOutcome) (net net' : NetTold) → (at_of o ≡ None → net'.plan ≡ net.plan) → PlanStays net net' (outer_of o) (is_some (reached_at (reached_behind d (at_of o))))
+plan-as d (DialOutcome.CameUp local) net net' h = refl
+plan-as d DialOutcome.WasRefused net net' h = h refl
+plan-as d DialOutcome.NoHost net net' h = h refl
+plan-as d DialOutcome.NoNet net net' h = h refl
+plan-as d DialOutcome.Fault net net' h = h refl
 
 outer-as : (d : Dialling) (o : DialOutcome) (net : NetTold) → ((plan : Plan) → net.plan ≡ Some plan → o ≡ plan.outcome) → IsOuterOf net (Phase.Reach (grant_of d)) (outer_of o)
 outer-as d (DialOutcome.CameUp local) net h = (refl, λ plan e. ap outer_of (h plan e))
@@ -291,6 +291,7 @@ pub record Reaches {L : Type 0} (told : L → Told) (counts : L → Counts) (d :
   pub unsent_t : at_of o ≡ None → (z.state).sent_t ≡ []
   pub dials : net'.dials ≡ dialled net.dials (record { to = (d.asked).to; outcome = o })
   pub planned : (plan : Plan) → net.plan ≡ Some plan → o ≡ plan.outcome
+  pub kept : at_of o ≡ None → net'.plan ≡ net.plan
   pub told' : told z.client ≡ told_taken (told a.client) y_c
   pub target' : HoldsTarget told z.state z.target
   pub same_target : SameTarget told net a.target z.target
@@ -331,7 +332,7 @@ turns-reached told counts d net net' a z o y_c rest_c rest_t full_c full_t fault
   behind = before d;
   taken' = λ worker. refl;
   dials = subst (λ (p : Phase). DialsAre net.dials net'.dials p (outer_of o)) (sym (phase-before d)) (dials-as o net.dials net'.dials (grant_of d) h.dials);
-  plan' = plan-as o net net' _ refl;
+  plan' = plan-as d o net net' h.kept;
   outer' = subst (λ (p : Phase). IsOuterOf net p (outer_of o)) (sym (phase-before d)) (outer-as d o net h.planned);
   stops_c = λ worker. StopsReading.unread (record { behind = before d; taken' = refl; unread' = ap (reads_client (basis_of d) [] (links full_c full_t) (before d)) (phase-before d) });
   stops_t = λ worker. StopsReading.unread (record { behind = before d; taken' = refl; unread' = ap (reads_target (before d)) (phase-before d) });

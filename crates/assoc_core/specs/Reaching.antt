@@ -48,6 +48,7 @@ pub record HasDialled {L : Type 0} (told : L → Told) (net net' : NetTold) (now
   pub target' : b.target ≡ a.target
   pub dials : net'.dials ≡ dialled net.dials (record { to = facts.to; outcome = outcome })
   pub planned : (plan : Plan) → net.plan ≡ Some plan → outcome ≡ plan.outcome
+  pub kept : at_of outcome ≡ None → net'.plan ≡ net.plan
 
 -- the link that came up
 pub record IsNewLink (told : Told) (net : NetTold) : Type 0 where
