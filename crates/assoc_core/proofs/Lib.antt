@@ -7,6 +7,7 @@ pub mod Hearings
 pub mod LinksHeld
 pub mod PlainRecords
 pub mod PreludeBytes
+pub mod ReachEnds
 pub mod ReachTurns
 pub mod Reaching
 pub mod RelayRecords

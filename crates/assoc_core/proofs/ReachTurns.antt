@@ -184,7 +184,7 @@ dialling_of told users pubs generation config most h marks net net' now a b o k 
       (subst (λ (o : Option Cause). IsPrefix (a.state).sent_c (owed_c (let r = a.state in record r { cause = o }))) k.uncaused ((k.stands).plain).sent_c);
 }
 
-before-is : {L : Type 0} (told : L → Told) (users : List User) (pubs : List Config) (generation : ℕ) (config : Config) (most : ℕ) (h : List Line) (marks : List StopBy)
+pub before-is : {L : Type 0} (told : L → Told) (users : List User) (pubs : List Config) (generation : ℕ) (config : Config) (most : ℕ) (h : List Line) (marks : List StopBy)
     (net net' : NetTold) (now : ℕ) (a b : Assoc L) (o : DialOutcome) (k : HasDialled told net net' now a b o)
     → a.state ≡ before (dialling_of told users pubs generation config most h marks net net' now a b o k)
 before-is told users pubs generation config most h marks net net' now a b o k = λ i. record {
