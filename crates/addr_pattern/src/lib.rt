@@ -8,6 +8,7 @@ mod front;
 mod host;
 mod name;
 mod pattern;
+mod short;
 
 pub use addr::Addr;
 pub use endpoint::Endpoint;
@@ -15,3 +16,4 @@ pub use front::{BadAt, BadKind, Front, Span};
 pub use host::Host;
 pub use name::Name;
 pub use pattern::{HostPattern, Pattern, PortTest};
+pub use short::Short;

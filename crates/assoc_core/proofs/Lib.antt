@@ -10,6 +10,8 @@ pub mod LinksHeld
 pub mod PassLaws
 pub mod PlainRecords
 pub mod PreludeBytes
+pub mod ReachEnds
+pub mod ReachTurns
 pub mod Reaching
 pub mod RelayAnswers
 pub mod RelayCloses

@@ -1,15 +1,17 @@
-ghost use Rattle.std.specs.Prelude.{◌≡◌, ℕ, None, Option, List, [], ◌∷◌, IfOk, option_map, drop, length};
+ghost use Rattle.std.specs.Prelude.{◌≡◌, ℕ, Bool, Some, None, Option, List, [], ◌∷◌, IfOk, option_map, drop, length};
+ghost use Rattle.addr_pattern.specs.declared.endpoint.Endpoint.{Endpoint};
 ghost use Rattle.conf_model.specs.declared.config.Config.{Config};
 ghost use Rattle.conf_model.specs.declared.user.User.{User};
+ghost use Rattle.net_ends.specs.Nets.{NetTold, DialOutcome};
 ghost use Rattle.rule_list.specs.declared.facts.Facts.{Facts};
 ghost use Rattle.rule_list.specs.declared.verdict.Verdict.{Verdict};
 ghost use Rattle.socks_machine.specs.declared.lines.Line.{Line};
 ghost use Rattle.socks_machine.specs.declared.cause.StopBy.{StopBy};
 ghost use Rattle.socks_machine.specs.declared.record.Decision.{Decision};
 ghost use Rattle.socks_machine.specs.Decisions.{granted};
-ghost use Rattle.assoc_core.specs.Plain.{owed_t};
+ghost use Rattle.assoc_core.specs.Reaching.{HasDialled, IsNewLink, HasGreeted, SameDesk, cause_of};
 ghost use Rattle.assoc_core.specs.Sending.{Sends};
-ghost use Rattle.assoc_core.specs.Stands.{Stands, TellsServed};
+ghost use Rattle.assoc_core.specs.Stands.{Stands};
 ghost use Rattle.assoc_core.specs.Turns.{Turns, context};
 
 use crate::assoc::{Assoc, Next};
@@ -49,30 +51,49 @@ fn send_to_target<L: Link>(
 
 impl<L: Link + Drop> Assoc<L> {
     /// The target is reached: the reply of success is written, and what the client has sent behind its prelude.
-    fn greet(mut self, alloc: Global, mut link: L) -> Result<Next<L>, AllocError> {
+    fn greet(mut self, alloc: Global, link: L) -> Result<Next<L>, AllocError>
+        ensures { IfOk result (λ next. (users : List User) (pubs : List Config) (generation : ℕ) (config : Config) (cap : ℕ) (h : List Line) (marks : List StopBy) (net net' : NetTold) (now : ℕ) (a : Assoc L) (local : Endpoint) → HasDialled L.told net net' now a self (DialOutcome.CameUp local) → IsNewLink (L.told link) net → Turns L.told L.counts (SameDesk h marks) (context users pubs generation config cap h marks) now net net' a next) }
+    {
         match send_to_client(alloc, &mut self.state, &mut self.client)? {
-            Sent::All | Sent::Full => {}
+            Sent::All => self.send_payload(alloc, link),
+            Sent::Full => self.send_payload(alloc, link),
             Sent::Failed => {
                 self.state.cause = first_cause(Some(Cause::ClientFault), self.state.cause);
                 self.target = Some(link);
-                return Ok(Next::Again(self));
+                Ok(Next::Again(self))
             }
         }
+    }
+
+    /// What the client has sent behind its prelude is written to a new target.
+    fn send_payload(mut self, alloc: Global, mut link: L) -> Result<Next<L>, AllocError>
+        ensures { IfOk result (λ next. (users : List User) (pubs : List Config) (generation : ℕ) (config : Config) (cap : ℕ) (h : List Line) (marks : List StopBy) (net net' : NetTold) (now : ℕ) (a b : Assoc L) (local : Endpoint) (full : Bool) → HasDialled L.told net net' now a b (DialOutcome.CameUp local) → IsNewLink (L.told link) net → HasGreeted L.told L.counts b self full → Turns L.told L.counts (SameDesk h marks) (context users pubs generation config cap h marks) now net net' a next) }
+    {
         match send_to_target(alloc, &mut self.state, &mut link)? {
-            Sent::All | Sent::Full => {}
+            Sent::All => {
+                self.target = Some(link);
+                Ok(Next::Again(self))
+            }
+            Sent::Full => {
+                self.target = Some(link);
+                Ok(Next::Again(self))
+            }
             Sent::Failed => {
                 self.state.cause = first_cause(Some(Cause::TargetFault), self.state.cause);
+                self.target = Some(link);
+                Ok(Next::Again(self))
             }
         }
-        self.target = Some(link);
-        Ok(Next::Again(self))
     }
 
     /// The target isn't reached: the refusal is written.
-    fn refuse(mut self, alloc: Global, cause: Cause) -> Result<Next<L>, AllocError> {
+    fn refuse(mut self, alloc: Global, cause: Cause) -> Result<Next<L>, AllocError>
+        ensures { IfOk result (λ next. (users : List User) (pubs : List Config) (generation : ℕ) (config : Config) (cap : ℕ) (h : List Line) (marks : List StopBy) (net net' : NetTold) (now : ℕ) (a : Assoc L) (outcome : DialOutcome) → HasDialled L.told net net' now a self outcome → cause_of outcome ≡ Some cause → Turns L.told L.counts (SameDesk h marks) (context users pubs generation config cap h marks) now net net' a next) }
+    {
         self.state.cause = first_cause(Some(cause), self.state.cause);
         match send_to_client(alloc, &mut self.state, &mut self.client)? {
-            Sent::All | Sent::Full => Ok(Next::Again(self)),
+            Sent::All => Ok(Next::Again(self)),
+            Sent::Full => Ok(Next::Again(self)),
             Sent::Failed => {
                 self.state.cause = first_cause(Some(Cause::ClientFault), self.state.cause);
                 Ok(Next::Again(self))
@@ -90,6 +111,7 @@ pub(crate) fn reach<N: Net>(
 ) -> Result<Next<N::Link>, AllocError>
 where
     N::Link: Drop,
+    ensures { IfOk result (λ next. (users : List User) (pubs : List Config) (generation : ℕ) (config : Config) (cap : ℕ) (h : List Line) (marks : List StopBy) (g g' : ℕ) (rule : Option ℕ) (facts : Facts) (verdict : Verdict) → Stands N.Link.told assoc → assoc.state.since ≡ now → assoc.state.cause ≡ None → assoc.state.decisions ≡ Decision.Opened g rule None ∷ Decision.Granted g' facts verdict None None ∷ [] → Turns N.Link.told N.Link.counts (SameDesk h marks) (context users pubs generation config cap h marks) now (N.told net.old) (N.told net.new) assoc next) }
 {
     let Some(to) = granted_to(assoc.state.decisions.as_slice()) else {
         return Err(AllocError);

@@ -1,5 +1,5 @@
 -- Counts of faults and of NotYet, which never fall.
-use Rattle.std.specs.Prelude.{◌≡◌, ◌≤◌, ◌+◌, ◌-◌, ◌^◌, ℕ, min}
+use Rattle.std.specs.Prelude.{◌≤◌, ◌+◌, ◌-◌, ◌^◌, ℕ, min}
 use Rattle.net_ends.specs.declared.link.Reading.{Reading}
 use Rattle.net_ends.specs.declared.link.Writing.{Writing}
 use Rattle.net_ends.specs.declared.link.Shutting.{Shutting}

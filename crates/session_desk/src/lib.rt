@@ -2,5 +2,11 @@
 #![tactic(auto)]
 
 mod call;
+mod desk;
+mod entry;
 
 pub use call::DeskCall;
+pub use desk::Desk;
+
+#[cfg(test)]
+mod tests;

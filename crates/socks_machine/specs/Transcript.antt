@@ -65,15 +65,16 @@ event_line w (Event.Open worker number peer local now) = line (codes "open" ∷ 
 event_line w (Event.Stop by) = []
 event_line w (Event.Turn ev) = turn_line (unwrap_or (slice_get w.seen ev.worker) 0) ev (numbered w.records ev.number)
 
+-- an event's line in front of those behind it, from the world that the event leaves
+abbrev pub line_before : Event → Option World → List ℕ × Option World → List ℕ × Option World
+line_before e None rest = ([], None)
+line_before e (Some w) rest = (event_line w e ++ rest.0, rest.1)
+
 -- the lines of a list of events, and the world behind them
 abbrev pub traced : Option World → List Event → List ℕ × Option World
 traced w [] = ([], w)
 traced None (e ∷ es) = ([], None)
-traced (Some w) (e ∷ es) = onto (step w e) (traced (step w e) es)
-  where
-    onto : Option World → List ℕ × Option World → List ℕ × Option World
-    onto None rest = ([], None)
-    onto (Some w') rest = (event_line w' e ++ rest.0, rest.1)
+traced (Some w) (e ∷ es) = line_before e (step w e) (traced (step w e) es)
 
 -- ---- what became of each association
 

@@ -1,0 +1,207 @@
+ghost use Rattle.std.specs.Prelude.{◌≡◌, ◌≤◌, ◌+◌, ◌++◌, true, false, IfOk, OnOk, OnErr, length};
+
+use crate::failing::FailingCalls;
+use crate::link::{Link, Reading, Shutting, Writing};
+use crate::pieces::{copy_front, rest_of};
+use conf_text::{Memory, Text};
+use std::alloc::Global;
+use std::marker::Model;
+
+/// A link that gives what arrived at it, and keeps what it took. It takes bytes only into the room that was made for them.
+#[derive(Drop)]
+pub struct MemLink {
+    arrived: Text,
+    given: usize,
+    ends: bool,
+    taken: Vec<u8>,
+    cap: usize,
+    ended: bool,
+    shut: bool,
+    failing: FailingCalls,
+    faults: u64,
+    idle_reads: u64,
+    idle_writes: u64,
+}
+
+impl Model for MemLink {
+    ghost use Rattle.std.specs.Prelude.{◌≡◌, ◌≤◌, ◌==◌, ℕ, true, length, take, vec_len, vec_capacity};
+    ghost use Rattle.net_ends.specs.InMemory.{LinkInMemory};
+
+    ghost Value = { LinkInMemory };
+
+    ghost view = { λ m. record {
+      arrived = m.arrived;
+      ends = m.ends;
+      given = take m.given m.arrived;
+      taken = m.taken.items;
+      cap = m.cap;
+      ended = m.ended;
+      shut = m.shut;
+      unfailing = length m.failing == 0;
+      counts = record { faults = m.faults; idle_reads = m.idle_reads; idle_writes = m.idle_writes };
+    } };
+
+    ghost invariant = { λ m. (m.given ≤ length m.arrived) × (vec_len m.taken ≤ m.cap) × (m.cap ≤ vec_capacity m.taken) × (m.ended ≡ true → m.ends ≡ true) × (m.ended ≡ true → m.given ≡ length m.arrived) };
+}
+
+impl MemLink {
+    ghost use Rattle.net_ends.specs.InMemory.{fresh_link};
+
+    /// A link at which nothing has arrived yet, with room for that many bytes that it takes.
+    pub fn make(alloc: Global, cap: usize) -> Result<MemLink, Memory>
+        ensures { IfOk result (λ link. link ≡ fresh_link cap) }
+    {
+        match Vec::with_capacity(alloc, cap) {
+            Ok(taken) => Ok(MemLink {
+                arrived: Text::make(alloc),
+                given: 0,
+                ends: false,
+                taken,
+                cap,
+                ended: false,
+                shut: false,
+                failing: FailingCalls::none(alloc),
+                faults: 0,
+                idle_reads: 0,
+                idle_writes: 0,
+            }),
+            Err(_) => Err(Memory),
+        }
+    }
+
+    /// A link at which nothing has arrived, and that can take nothing. It needs no memory.
+    pub(crate) fn empty(alloc: Global) -> MemLink
+        ensures { result ≡ fresh_link 0 }
+    {
+        MemLink {
+            arrived: Text::make(alloc),
+            given: 0,
+            ends: false,
+            taken: Vec::new(alloc),
+            cap: 0,
+            ended: false,
+            shut: false,
+            failing: FailingCalls::none(alloc),
+            faults: 0,
+            idle_reads: 0,
+            idle_writes: 0,
+        }
+    }
+
+    /// Bytes arrive behind those that arrived before.
+    pub fn arrive(&mut self, bytes: &[u8]) -> Result<(), Memory>
+        requires { self.old.ends ≡ false }
+        ensures ok { OnOk result (self.new ≡ record self.old { arrived = self.old.arrived ++ bytes.now }) }
+        ensures err { OnErr result (self.new ≡ self.old) }
+    {
+        match self.arrived.add(bytes) {
+            Ok(()) => Ok(()),
+            Err(_) => Err(Memory),
+        }
+    }
+
+    /// The end stands behind what arrived.
+    pub fn end(&mut self)
+        ensures { self.new ≡ record self.old { ends = true } }
+    {
+        self.ends = true;
+    }
+
+    /// Makes room for that many further bytes.
+    pub fn spare(&mut self, further: usize) -> Result<(), Memory>
+        ensures ok { OnOk result (self.new ≡ record self.old { cap = self.old.cap + further }) }
+        ensures err { OnErr result (self.new ≡ self.old) }
+    {
+        let Some(cap) = self.cap.checked_add(further) else {
+            return Err(Memory);
+        };
+        match self.taken.reserve(cap - self.taken.len()) {
+            Ok(()) => {
+                self.cap = cap;
+                Ok(())
+            }
+            Err(_) => Err(Memory),
+        }
+    }
+
+    /// The call of this number, counted from 1 over all calls, is to fail.
+    pub fn fail_at(&mut self, number: u64) -> Result<(), Memory>
+        ensures ok { OnOk result (self.new ≡ record self.old { unfailing = false }) }
+        ensures err { OnErr result (self.new ≡ self.old) }
+    {
+        self.failing.add(number)
+    }
+
+    /// What it took.
+    pub fn taken(&self) -> &[u8]
+        ensures { result.now ≡ self.now.taken }
+    {
+        self.taken.as_slice()
+    }
+
+    /// Whether it has answered its end.
+    pub fn has_ended(&self) -> bool
+        ensures { result ≡ self.now.ended }
+    {
+        self.ended
+    }
+
+    /// Whether a shut of it was done.
+    pub fn was_shut(&self) -> bool
+        ensures { result ≡ self.now.shut }
+    {
+        self.shut
+    }
+}
+
+impl Link for MemLink {
+    ghost use Rattle.net_ends.specs.InMemory.{told_of_link};
+
+    ghost told = { told_of_link };
+
+    ghost counts = { λ link. link.counts };
+
+    fn read(&mut self, into: &mut [u8]) -> Reading {
+        if self.failing.next_fails() {
+            self.faults = self.faults.saturating_add(1);
+            return Reading::Failed;
+        }
+        let rest = rest_of(self.arrived.as_slice(), self.given);
+        if rest.is_empty() {
+            if self.ends {
+                self.ended = true;
+                return Reading::End;
+            }
+            self.idle_reads = self.idle_reads.saturating_add(1);
+            return Reading::NotYet;
+        }
+        let n = copy_front(into, rest);
+        self.given += n;
+        Reading::Got(n)
+    }
+
+    fn write(&mut self, from: &[u8]) -> Writing {
+        if self.failing.next_fails() {
+            self.faults = self.faults.saturating_add(1);
+            return Writing::Failed;
+        }
+        let n = from.len().min(self.cap - self.taken.len());
+        if n == 0 {
+            self.idle_writes = self.idle_writes.saturating_add(1);
+            return Writing::NotYet;
+        }
+        match self.taken.extend_from_slice(&from[..n]) {
+            Ok(()) => Writing::Took(n),
+            Err(_) => unreachable!(),
+        }
+    }
+
+    fn shut(&mut self) -> Shutting {
+        if self.failing.next_fails() {
+            self.faults = self.faults.saturating_add(1);
+            return Shutting::Failed;
+        }
+        self.shut = true;
+        Shutting::Done
+    }
+}

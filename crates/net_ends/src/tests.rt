@@ -1,0 +1,130 @@
+use super::*;
+use addr_pattern::{Addr, Endpoint};
+use conf_text::Memory;
+use std::alloc::Global;
+use std::test::*;
+
+const TARGET: Endpoint = Endpoint {
+    addr: Addr::V4(1),
+    port: 80,
+};
+
+const LOCAL: Endpoint = Endpoint {
+    addr: Addr::V4(2),
+    port: 4000,
+};
+
+fn link(alloc: Global, bytes: &[u8], ends: bool, fails: &[u64]) -> Result<MemLink, Memory> {
+    let mut link = MemLink::make(alloc, 4)?;
+    link.arrive(bytes)?;
+    for number in fails {
+        link.fail_at(*number)?;
+    }
+    if ends {
+        link.end();
+    }
+    Ok(link)
+}
+
+#[test]
+fn link_gives_what_arrived(rt: HostRuntime) -> Result<(), Fail> {
+    let mut link = link(rt.alloc(), b"abc", true, &[]).ok().ok_or("memory")?;
+    let mut buffer = [0; 2];
+    assert_eq!(rt; link.read(&mut buffer), Reading::Got(2));
+    assert_eq!(rt; &buffer, b"ab");
+    assert_eq!(rt; link.read(&mut buffer), Reading::Got(1));
+    assert_eq!(rt; buffer[0], b'c');
+    assert!(rt; !link.has_ended());
+    assert_eq!(rt; link.read(&mut buffer), Reading::End);
+    assert!(rt; link.has_ended());
+    Ok(())
+}
+
+#[test]
+fn link_takes_into_its_room(rt: HostRuntime) -> Result<(), Fail> {
+    let mut link = link(rt.alloc(), b"", false, &[]).ok().ok_or("memory")?;
+    let mut buffer = [0; 2];
+    assert_eq!(rt; link.read(&mut buffer), Reading::NotYet);
+    assert_eq!(rt; link.write(b"hello"), Writing::Took(4));
+    assert_eq!(rt; link.write(b"o"), Writing::NotYet);
+    link.spare(1).ok().ok_or("memory")?;
+    assert_eq!(rt; link.write(b"o"), Writing::Took(1));
+    assert_eq!(rt; link.taken(), b"hello".as_slice());
+    assert!(rt; !link.was_shut());
+    assert_eq!(rt; link.shut(), Shutting::Done);
+    assert!(rt; link.was_shut());
+    Ok(())
+}
+
+#[test]
+fn link_fails_at_the_numbered_calls(rt: HostRuntime) -> Result<(), Fail> {
+    let mut link = link(rt.alloc(), b"abc", false, &[1, 3, 5])
+        .ok()
+        .ok_or("memory")?;
+    let mut buffer = [0; 2];
+    assert_eq!(rt; link.read(&mut buffer), Reading::Failed);
+    assert_eq!(rt; link.read(&mut buffer), Reading::Got(2));
+    assert_eq!(rt; link.write(b"x"), Writing::Failed);
+    assert_eq!(rt; link.write(b"x"), Writing::Took(1));
+    assert_eq!(rt; link.shut(), Shutting::Failed);
+    assert_eq!(rt; link.shut(), Shutting::Done);
+    Ok(())
+}
+
+#[test]
+fn net_gives_its_link_once(rt: HostRuntime) -> Result<(), Fail> {
+    let mut net = MemNet::make(rt.alloc(), 4).ok().ok_or("memory")?;
+    net.arrive(b"hi").ok().ok_or("memory")?;
+    net.end();
+    net.spare(2).ok().ok_or("memory")?;
+    net.plan(DialPlan::Up(LOCAL));
+    let Dialing::Up { mut link, local } = net.dial(TARGET) else {
+        return Err("the dial was planned to come up".into());
+    };
+    assert_eq!(rt; local, LOCAL);
+    assert_eq!(rt; net.last_dial(), Some(TARGET));
+    let mut buffer = [0; 4];
+    assert_eq!(rt; link.read(&mut buffer), Reading::Got(2));
+    assert_eq!(rt; link.read(&mut buffer), Reading::End);
+    assert_eq!(rt; link.write(b"seven by"), Writing::Took(6));
+    assert!(rt; matches!(net.dial(TARGET), Dialing::Refused));
+    Ok(())
+}
+
+#[test]
+fn net_fails_as_planned(rt: HostRuntime) -> Result<(), Fail> {
+    let mut net = MemNet::make(rt.alloc(), 0).ok().ok_or("memory")?;
+    assert!(rt; matches!(net.dial(TARGET), Dialing::Refused));
+    net.plan(DialPlan::HostUnreachable);
+    assert!(rt; matches!(net.dial(TARGET), Dialing::HostUnreachable));
+    net.plan(DialPlan::NetUnreachable);
+    assert!(rt; matches!(net.dial(TARGET), Dialing::NetUnreachable));
+    net.plan(DialPlan::Failed);
+    assert!(rt; matches!(net.dial(TARGET), Dialing::Failed));
+    Ok(())
+}
+
+#[test]
+fn source_gives_and_ends(rt: HostRuntime) -> Result<(), Fail> {
+    let mut source = MemSource::make(rt.alloc(), 2).ok().ok_or("memory")?;
+    source.put(b"abc").ok().ok_or("memory")?;
+    source.fail_at(2).ok().ok_or("memory")?;
+    let mut buffer = [0; 2];
+    assert_eq!(rt; source.read(&mut buffer), Taking::Got(2));
+    assert_eq!(rt; source.read(&mut buffer), Taking::Failed);
+    assert_eq!(rt; source.read(&mut buffer), Taking::Got(1));
+    assert_eq!(rt; source.read(&mut buffer), Taking::End);
+    Ok(())
+}
+
+#[test]
+fn full_sink_fails(rt: HostRuntime) -> Result<(), Fail> {
+    let mut sink = MemSink::make(rt.alloc(), 3).ok().ok_or("memory")?;
+    sink.fail_at(1).ok().ok_or("memory")?;
+    assert_eq!(rt; sink.write(b"ab"), Giving::Failed);
+    assert_eq!(rt; sink.write(b"ab"), Giving::Took(2));
+    assert_eq!(rt; sink.write(b"cd"), Giving::Took(1));
+    assert_eq!(rt; sink.write(b"d"), Giving::Failed);
+    assert_eq!(rt; sink.taken(), b"abc".as_slice());
+    Ok(())
+}

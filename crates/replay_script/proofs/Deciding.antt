@@ -1,0 +1,85 @@
+-- A text has one reading.
+use Rattle.std.proofs.Common.{◌≡◌, ◌≢◌, ◌+◌, ℕ, List, [], ◌∷◌, length, sym, subst, ap, ◌∙◌, refl, arith}
+use Rattle.socks_machine.specs.declared.script.ScriptLine.{ScriptLine}
+use Rattle.replay_script.specs.declared.entry.Entry.{Entry}
+use Rattle.replay_script.specs.declared.state.State.{State}
+use Rattle.replay_script.specs.declared.fault.ScriptKind.{ScriptKind}
+use Rattle.replay_script.specs.Conditions.{start}
+use Rattle.replay_script.specs.Script.{behind_entry, lines_of, Serves, Reads, Stuck, AreLines, IsStuckAt, IsScript, IsNotBuilt, Faulty, header}
+use Rattle.replay_script.proofs.Steps.{one_begins, begins_shorter}
+use Rattle.replay_script.proofs.Reading.{one_first}
+
+-- nothing more is served
+unfoldable NoMore : State → List ℕ → Type 0
+NoMore s text = (l : Entry) (lines : ℕ) (behind : List ℕ) → Serves s text l lines behind → ⊥
+
+same_reads : (s : State) (text : List ℕ) (at : ℕ) (ls ms : List Entry) (rest other : List ℕ) (now last : State) (n k : ℕ) →
+    Reads s text at ls rest now n → NoMore now rest → Reads s text at ms other last k → NoMore last other → (ls ≡ ms) × (rest ≡ other) × (n ≡ k)
+unfolding NoMore
+same_reads s text at [] [] rest other now last n k h a j b = (refl, h.0 ∙ sym j.0, h.2 ∙ sym j.2)
+same_reads s text at [] (m ∷ ms) rest other now last n k h a j b =
+    absurd (a m j.0 j.1 (subst (λ (z : State). Serves z rest m j.0 j.1) (sym h.1) (subst (λ (z : List ℕ). Serves s z m j.0 j.1) (sym h.0) j.2)))
+same_reads s text at (l ∷ ls) [] rest other now last n k h a j b =
+    absurd (b l h.0 h.1 (subst (λ (z : State). Serves z other l h.0 h.1) (sym j.1) (subst (λ (z : List ℕ). Serves s z l h.0 h.1) (sym j.0) h.2)))
+same_reads s text at (l ∷ ls) (m ∷ ms) rest other now last n k h a j b =
+    let q = one_begins text l m h.0 j.0 h.1 j.1 h.2.begins j.2.begins in
+    let moved : Reads (behind_entry s l) h.1 (at + h.0) ms other last k =
+    subst (λ (z : Entry). Reads (behind_entry s z) h.1 (at + h.0) ms other last k) (sym q.0)
+    (subst (λ (z : ℕ). Reads (behind_entry s m) h.1 (at + z) ms other last k) (sym q.1)
+    (subst (λ (z : List ℕ). Reads (behind_entry s m) z (at + j.0) ms other last k) (sym q.2) j.3)) in
+    let r = same_reads (behind_entry s l) h.1 (at + h.0) ls ms rest other now last n k h.3 a moved b in
+    (cc (q.0, r.0), r.1, r.2)
+
+none_behind : (s : State) → NoMore s []
+unfolding NoMore
+none_behind s = λ l lines behind h. let k = begins_shorter [] l lines behind h.begins in let a = k.0 in let b = k.1 in absurd (omega (arith, a, b))
+
+stuck_none : (s : State) (text : List ℕ) → Stuck s text → NoMore s text
+unfolding NoMore
+stuck_none s text h = h.1
+
+pub scripts_agree : (text : List ℕ) (ls ms : List ScriptLine) → IsScript text ls → IsScript text ms → ls ≡ ms
+scripts_agree text ls ms h k =
+    let q = (one_first text header header h.behind k.behind h.head k.head).1 in
+    let a = h.lines in
+    let b : AreLines h.behind ms = subst (λ (z : List ℕ). AreLines z ms) (sym q) k.lines in
+    let r = (same_reads start h.behind 2 a.entries b.entries [] [] a.last b.last a.number b.number a.reading (none_behind a.last) b.reading (none_behind b.last)).0 in
+    a.shown ∙ (ap lines_of r ∙ sym b.shown)
+
+pub script_apart : (text : List ℕ) (ls : List ScriptLine) (n : ℕ) → IsScript text ls → IsNotBuilt text n → ⊥
+script_apart text ls n h k =
+    let q = (one_first text header header h.behind k.behind h.head k.head).1 in
+    let a = h.lines in
+    let b : IsStuckAt h.behind n = subst (λ (z : List ℕ). IsStuckAt z n) (sym q) k.stuck in
+    let r = (same_reads start h.behind 2 a.entries b.entries [] b.rest a.last b.last a.number n a.reading (none_behind a.last) b.reading (stuck_none b.last b.rest b.stuck)).1 in
+    let e : 0 ≡ length b.rest = ap length r in
+    let some = b.stuck.0 in
+    absurd (omega (arith, e, some))
+
+faults_agree : (text : List ℕ) (n m : ℕ) → IsNotBuilt text n → IsNotBuilt text m → n ≡ m
+faults_agree text n m h k =
+    let q = (one_first text header header h.behind k.behind h.head k.head).1 in
+    let a = h.stuck in
+    let b : IsStuckAt h.behind m = subst (λ (z : List ℕ). IsStuckAt z m) (sym q) k.stuck in
+    (same_reads start h.behind 2 a.entries b.entries a.rest b.rest a.last b.last n m a.reading (stuck_none a.last a.rest a.stuck) b.reading (stuck_none b.last b.rest b.stuck)).2
+
+-- a script has no fault but want of memory
+pub script_faultless : (text : List ℕ) (ls : List ScriptLine) (n : ℕ) (kind : ScriptKind) → IsScript text ls → Faulty text n kind → kind ≡ ScriptKind.Memory
+script_faultless text ls n ScriptKind.Length h k = let a = h.small in let b = k.0 in absurd (omega (arith, a, b))
+script_faultless text ls n ScriptKind.Header h k = absurd (k.missing h.behind h.head)
+script_faultless text ls n ScriptKind.NotBuilt h k = absurd (script_apart text ls n h k)
+script_faultless text ls n ScriptKind.Memory h k = refl
+
+-- the fault that a text has is one, but for want of memory
+pub one_fault : (text : List ℕ) (n m : ℕ) (kind other : ScriptKind) → Faulty text n kind → Faulty text m other → kind ≢ ScriptKind.Memory → other ≢ ScriptKind.Memory → (n ≡ m) × (kind ≡ other)
+one_fault text n m ScriptKind.Memory other h k a b = absurd (a refl)
+one_fault text n m kind ScriptKind.Memory h k a b = absurd (b refl)
+one_fault text n m ScriptKind.Length ScriptKind.Length h k a b = (h.1 ∙ sym k.1, refl)
+one_fault text n m ScriptKind.Header ScriptKind.Header h k a b = (h.number_is ∙ sym k.number_is, refl)
+one_fault text n m ScriptKind.NotBuilt ScriptKind.NotBuilt h k a b = (faults_agree text n m h k, refl)
+one_fault text n m ScriptKind.Length ScriptKind.Header h k a b = let x = h.0 in let y = k.small in absurd (omega (arith, x, y))
+one_fault text n m ScriptKind.Length ScriptKind.NotBuilt h k a b = let x = h.0 in let y = k.small in absurd (omega (arith, x, y))
+one_fault text n m ScriptKind.Header ScriptKind.Length h k a b = let x = k.0 in let y = h.small in absurd (omega (arith, x, y))
+one_fault text n m ScriptKind.NotBuilt ScriptKind.Length h k a b = let x = k.0 in let y = h.small in absurd (omega (arith, x, y))
+one_fault text n m ScriptKind.Header ScriptKind.NotBuilt h k a b = absurd (h.missing k.behind k.head)
+one_fault text n m ScriptKind.NotBuilt ScriptKind.Header h k a b = absurd (k.missing h.behind h.head)

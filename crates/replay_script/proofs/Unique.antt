@@ -1,0 +1,155 @@
+-- A text spells at most one line.
+use Rattle.std.proofs.Common.{◌≡◌, ◌≢◌, ◌<◌, ◌≤◌, ◌^◌, ℕ, true, List, [], ◌∷◌, codes, get_or, sym, ap, ◌∙◌, refl, arith}
+use Rattle.std.proofs.lemmas.Bool.Decides.{nat_tests}
+use Rattle.std.proofs.lemmas.Fmt.{decimal_injective}
+use Rattle.addr_pattern.specs.declared.endpoint.Endpoint.{Endpoint}
+use Rattle.socks_machine.specs.declared.world.Outer.{Outer}
+use Rattle.socks_machine.specs.declared.script.ScriptLine.{ScriptLine}
+use Rattle.replay_script.specs.Cuts.{IsNumber}
+use Rattle.replay_script.specs.Forms.{largest, v4, Spells, IsEndpoint, IsHex, IsNumbered, IsOpen, IsClient, IsDial, IsOutcome, is_skipped}
+use Rattle.replay_script.proofs.Peeling.{peel_after, peel_cut, peel_number}
+
+pub one_number : (limit : ℕ) (text : List ℕ) (n m : ℕ) → limit < 2 ^ 64 → IsNumber limit text n → IsNumber limit text m → n ≡ m
+one_number limit text n m small h k =
+    let a = h.fits in
+    let b = k.fits in
+    decimal_injective n m (omega arith) (omega arith) (sym h.spelled ∙ k.spelled)
+
+pub one_endpoint : (text : List ℕ) (e f : Endpoint) → IsEndpoint text e → IsEndpoint text f → e ≡ f
+unfolding IsEndpoint
+one_endpoint text e f h k =
+    let k1 = peel_number 46 255 text h.0 h.1 _ refl (omega arith) h.2 k in
+    let k2 = peel_number 46 255 h.1 h.3.0 h.3.1 _ refl (omega arith) h.3.2 k1 in
+    let k3 = peel_number 46 255 h.3.1 h.3.3.0 h.3.3.1 _ refl (omega arith) h.3.3.2 k2 in
+    let k4 = peel_number 58 255 h.3.3.1 h.3.3.3.0 h.3.3.3.1 _ refl (omega arith) h.3.3.3.2 k3 in
+    let p = one_number 65535 h.3.3.3.1 h.3.3.3.3.0 k4.0 (omega arith) h.3.3.3.3.1 k4.1 in
+    h.3.3.3.3.2 ∙ (ap (λ (z : ℕ). v4 h.0 h.3.0 h.3.3.0 h.3.3.3.0 z) p ∙ sym k4.2)
+
+pub one_hex : (text xs ys : List ℕ) → IsHex text xs → IsHex text ys → xs ≡ ys
+unfolding IsHex
+one_hex text xs ys h k = let a = h.1 in let b = k.1 in cc
+
+pub one_numbered : (front text : List ℕ) (n m : ℕ) → IsNumbered front text n → IsNumbered front text m → n ≡ m
+one_numbered front text n m h k =
+    let k1 = peel_after front text h.0 (λ rest. IsNumber largest rest m) h.1 k in
+    one_number largest h.0 n m (omega arith) h.2 k1
+
+one_open : (text : List ℕ) (n m : ℕ) (p q a b : Endpoint) → IsOpen text n p a → IsOpen text m q b → (n ≡ m) × (p ≡ q) × (a ≡ b)
+one_open text n m p q a b h k =
+    let k1 = peel_after (codes "open 1 ") text h.0 _ h.1 k in
+    let k2 = peel_number 32 largest h.0 h.2.0 h.2.1 _ refl (omega arith) h.2.2 k1 in
+    let k3 = peel_cut 32 h.2.1 h.2.3.0 h.2.3.1 _ h.2.3.2 k2 in
+    (sym h.2.3.3.0 ∙ k3.0, one_endpoint h.2.3.0 p q h.2.3.3.1 k3.1, one_endpoint h.2.3.1 a b h.2.3.3.2 k3.2)
+
+one_client : (text : List ℕ) (n m : ℕ) (xs ys : List ℕ) → IsClient text n xs → IsClient text m ys → (n ≡ m) × (xs ≡ ys)
+one_client text n m xs ys h k =
+    let k1 = peel_after (codes "client ") text h.0 _ h.1 k in
+    let k2 = peel_number 32 largest h.0 h.2.0 h.2.1 _ refl (omega arith) h.2.2 k1 in
+    (sym h.2.3.0 ∙ k2.0, one_hex h.2.1 xs ys h.2.3.1 k2.1)
+
+up_refused : (text : List ℕ) (a : Endpoint) → IsOutcome text (Outer.Up a) → text ≡ codes "refused" → ⊥
+up_refused text a h k =
+    let e : ◌≡◌ {A = ℕ} 117 114 = ap (λ (z : List ℕ). get_or z 0 0) (sym h.1 ∙ k) in
+    absurd (omega (arith, e))
+
+one_outcome : (text : List ℕ) (a b : Outer) → IsOutcome text a → IsOutcome text b → a ≡ b
+one_outcome text (Outer.Up a) (Outer.Up b) h k =
+    let q = one_endpoint h.0 a b h.2 (peel_after (codes "up ") text h.0 _ h.1 k) in
+    ap (λ (z : Endpoint). Outer.Up z) q
+one_outcome text Outer.Refused Outer.Refused h k = refl
+one_outcome text (Outer.Up a) Outer.Refused h k = absurd (up_refused text a h k)
+one_outcome text Outer.Refused (Outer.Up b) h k = absurd (up_refused text b k h)
+one_outcome text (Outer.Up a) _ h k = absurd k
+one_outcome text Outer.Refused _ h k = absurd k
+one_outcome text _ _ h k = absurd h
+
+one_dial : (text : List ℕ) (n m : ℕ) (a b : Outer) → IsDial text n a → IsDial text m b → (n ≡ m) × (a ≡ b)
+one_dial text n m a b h k =
+    let k1 = peel_after (codes "dial ") text h.0 _ h.1 k in
+    let k2 = peel_number 32 largest h.0 h.2.0 h.2.1 _ refl (omega arith) h.2.2 k1 in
+    (sym h.2.3.0 ∙ k2.0, one_outcome h.2.1 a b h.2.3.1 k2.1)
+
+client_end : (text : List ℕ) (n m : ℕ) (xs : List ℕ) → IsClient text n xs → IsNumbered (codes "clientend ") text m → ⊥
+client_end text n m xs h k =
+    let e : ◌≡◌ {A = ℕ} 32 101 = ap (λ (z : List ℕ). get_or z 6 0) (sym h.1 ∙ k.1) in
+    absurd (omega arith)
+
+-- ---- which form it is
+
+-- the second byte of a line of this form
+unfoldable code : ScriptLine → ℕ
+code (ScriptLine.See w) = 101
+code (ScriptLine.Open w n p a) = 112
+code (ScriptLine.Client n xs) = 108
+code (ScriptLine.ClientEnd n) = 108
+code (ScriptLine.TargetEnd n) = 97
+code (ScriptLine.Dial n o) = 105
+code (ScriptLine.Turn w n) = 117
+code _ = 0
+
+second : (text : List ℕ) (l : ScriptLine) → Spells text l → (get_or text 1 0 ≡ code l) × (0 < code l)
+unfolding code
+second text (ScriptLine.See w) h = (ap (λ (z : List ℕ). get_or z 1 0) h.1, omega arith)
+second text (ScriptLine.Open w n p a) h = (ap (λ (z : List ℕ). get_or z 1 0) h.1.1, omega arith)
+second text (ScriptLine.Client n xs) h = (ap (λ (z : List ℕ). get_or z 1 0) h.1, omega arith)
+second text (ScriptLine.ClientEnd n) h = (ap (λ (z : List ℕ). get_or z 1 0) h.1, omega arith)
+second text (ScriptLine.TargetEnd n) h = (ap (λ (z : List ℕ). get_or z 1 0) h.1, omega arith)
+second text (ScriptLine.Dial n o) h = (ap (λ (z : List ℕ). get_or z 1 0) h.1, omega arith)
+second text (ScriptLine.Turn w n) h = (ap (λ (z : List ℕ). get_or z 1 0) h.1.1, omega arith)
+second text _ h = absurd h
+
+same_form : (text : List ℕ) (l m : ScriptLine) → code l ≡ code m → 0 < code l → Spells text l → Spells text m → l ≡ m
+unfolding code
+same_form text (ScriptLine.See w) (ScriptLine.See v) e p h k = let q : w ≡ v = h.0 ∙ sym k.0 in cc
+same_form text (ScriptLine.Open w n p a) (ScriptLine.Open v m q b) e s h k =
+    let r = one_open text n m p q a b h.1 k.1 in
+    let x : w ≡ v = h.0 ∙ sym k.0 in
+    cc (r.0, r.1, r.2, x)
+same_form text (ScriptLine.Client n xs) (ScriptLine.Client m ys) e s h k = let r = one_client text n m xs ys h k in cc (r.0, r.1)
+same_form text (ScriptLine.ClientEnd n) (ScriptLine.ClientEnd m) e s h k = let r = one_numbered (codes "clientend ") text n m h k in cc r
+same_form text (ScriptLine.TargetEnd n) (ScriptLine.TargetEnd m) e s h k = let r = one_numbered (codes "targetend ") text n m h k in cc r
+same_form text (ScriptLine.Dial n a) (ScriptLine.Dial m b) e s h k = let r = one_dial text n m a b h k in cc (r.0, r.1)
+same_form text (ScriptLine.Turn w n) (ScriptLine.Turn v m) e s h k =
+    let r = one_numbered (codes "turn 1 ") text n m h.1 k.1 in
+    let x : w ≡ v = h.0 ∙ sym k.0 in
+    cc (r, x)
+same_form text (ScriptLine.Client n xs) (ScriptLine.ClientEnd m) e s h k = absurd (client_end text n m xs h k)
+same_form text (ScriptLine.ClientEnd n) (ScriptLine.Client m xs) e s h k = absurd (client_end text m n xs k h)
+same_form text l m e s h k = absurd (omega (arith, e, s))
+
+-- a text is at most one line
+pub one_line : (text : List ℕ) (l m : ScriptLine) → Spells text l → Spells text m → l ≡ m
+one_line text l m h k =
+    let a = second text l h in
+    let b = second text m k in
+    same_form text l m (sym a.0 ∙ b.0) a.1 h k
+
+-- no line begins as one that publishes, or as one that is skipped
+head_apart : (text : List ℕ) (l : ScriptLine) → Spells text l → (35 < get_or text 0 0) × (get_or text 0 0 ≢ 112)
+head_apart text (ScriptLine.See w) h = let e : get_or text 0 0 ≡ 115 = ap (λ (z : List ℕ). get_or z 0 0) h.1 in (omega (arith, e), λ f. absurd (omega (arith, e, f)))
+head_apart text (ScriptLine.Open w n p a) h = let e : get_or text 0 0 ≡ 111 = ap (λ (z : List ℕ). get_or z 0 0) h.1.1 in (omega (arith, e), λ f. absurd (omega (arith, e, f)))
+head_apart text (ScriptLine.Client n xs) h = let e : get_or text 0 0 ≡ 99 = ap (λ (z : List ℕ). get_or z 0 0) h.1 in (omega (arith, e), λ f. absurd (omega (arith, e, f)))
+head_apart text (ScriptLine.ClientEnd n) h = let e : get_or text 0 0 ≡ 99 = ap (λ (z : List ℕ). get_or z 0 0) h.1 in (omega (arith, e), λ f. absurd (omega (arith, e, f)))
+head_apart text (ScriptLine.TargetEnd n) h = let e : get_or text 0 0 ≡ 116 = ap (λ (z : List ℕ). get_or z 0 0) h.1 in (omega (arith, e), λ f. absurd (omega (arith, e, f)))
+head_apart text (ScriptLine.Dial n o) h = let e : get_or text 0 0 ≡ 100 = ap (λ (z : List ℕ). get_or z 0 0) h.1 in (omega (arith, e), λ f. absurd (omega (arith, e, f)))
+head_apart text (ScriptLine.Turn w n) h = let e : get_or text 0 0 ≡ 116 = ap (λ (z : List ℕ). get_or z 0 0) h.1.1 in (omega (arith, e), λ f. absurd (omega (arith, e, f)))
+head_apart text _ h = absurd h
+
+skipped_low : (text : List ℕ) → is_skipped text ≡ true → get_or text 0 0 ≤ 35
+skipped_low [] h = omega arith
+skipped_low (b ∷ bs) h = let e : b ≡ 35 = grind (arith, nat_tests, h) in let f : b ≤ 35 = omega (arith, e) in f
+
+-- a line that publishes is no other line
+pub publish_apart : (text : List ℕ) (n : ℕ) (l : ScriptLine) → IsNumbered (codes "publish ") text n → Spells text l → ⊥
+publish_apart text n l h k = (head_apart text l k).1 (ap (λ (z : List ℕ). get_or z 0 0) h.1)
+
+-- a line that is skipped is no line of the script
+pub skipped_apart : (text : List ℕ) (l : ScriptLine) → is_skipped text ≡ true → Spells text l → ⊥
+skipped_apart text l h k = let a = skipped_low text h in let b = (head_apart text l k).0 in absurd (omega (arith, a, b))
+
+-- nor is it one that publishes
+pub skipped_publish : (text : List ℕ) (n : ℕ) → is_skipped text ≡ true → IsNumbered (codes "publish ") text n → ⊥
+skipped_publish text n h k =
+    let a = skipped_low text h in
+    let b : get_or text 0 0 ≡ 112 = ap (λ (z : List ℕ). get_or z 0 0) k.1 in
+    absurd (omega (arith, a, b))

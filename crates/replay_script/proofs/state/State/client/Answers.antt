@@ -1,0 +1,23 @@
+use Rattle.std.proofs.Common.{◌≡◌, ◌+◌, ◌≤◌, ℕ, true, List, ◌++◌, length, slice_set, sym, ap, ◌∙◌, arith}
+use Rattle.std.proofs.lemmas.Bool.Decides.{nat_tests}
+use Rattle.replay_script.specs.declared.state.Side.{Side}
+use Rattle.socks_machine.specs.Served.{is_served_input}
+use Rattle.replay_script.specs.Conditions.{may_send}
+use Rattle.replay_script.proofs.Sides.{tested, changed}
+use Rattle.replay_script.proofs.state.State.client.Goals as goal
+
+pub returns : goal.returns
+returns c =
+    let old = c.replace-side.result in
+    let bytes = c.args.bytes.now in
+    let added : c.add.new.self ≡ c.replace-side.result.c ++ c.args.bytes.now = c.in_ok-add.ensures.ok in
+    let change : Side → Side = λ side. record side { c = side.c ++ c.args.bytes.now } in
+    let fits : length c.replace-side.result.c + length c.args.bytes.now ≤ 65535 = omega arith in
+    let served : is_served_input (c.replace-side.result.c ++ c.args.bytes.now) ≡ true =
+    ap is_served_input (sym (c.as_slice.ensures ∙ added)) ∙ (sym c.is_served_input.ensures ∙ c.if-not-is_served_input.false) in
+    let test : may_send c.args.bytes.now c.replace-side.result ≡ true = grind (arith, nat_tests, c.if-side.false, fits, served) in
+    let put : c.set.new.self ≡ slice_set c.replace-side.new.self c.in-Some.at (change c.replace-side.result) =
+    c.set.ensures ∙ ap (λ (z : List ℕ). slice_set c.replace-side.new.self c.in-Some.at (let t : Side = record c.replace-side.result { c = z } in t)) added in (
+      tested c.args.self.now c.args.number c.in-Some.at c.replace-side.result _ c.in-Some.ensures.0 c.replace-side.ensures.value ∙ test,
+      changed c.args.self.now c.args.number c.in-Some.at change c.replace-side.result _ _ _ c.in-Some.ensures.0 c.replace-side.ensures.value c.replace-side.ensures.after put,
+    )

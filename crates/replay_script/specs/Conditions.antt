@@ -1,0 +1,103 @@
+-- Under which conditions a script's lines are served on the first path: one worker, one configuration, and clients
+-- that speak SOCKS 5 to an IPv4 address or no SOCKS at all.
+use Rattle.std.specs.Prelude.{◌≡◌, ◌+◌, ◌-◌, ℕ, zero, suc, Bool, true, false, not, ◌&&◌, ◌==◌, nat_le, List, [], ◌∷◌, ◌++◌, Option, Some, None, length, slice_get, slice_set}
+use Rattle.addr_pattern.specs.declared.addr.Addr.{Addr}
+use Rattle.addr_pattern.specs.declared.endpoint.Endpoint.{Endpoint}
+use Rattle.conf_model.specs.Plain.{IsPlain}
+use Rattle.socks_machine.specs.declared.world.Outer.{Outer}
+use Rattle.socks_machine.specs.declared.script.ScriptLine.{ScriptLine}
+use Rattle.socks_machine.specs.Served.{is_served_input, is_whole_input}
+use Rattle.replay_script.specs.declared.state.Side.{Side}
+use Rattle.replay_script.specs.declared.state.State.{State}
+
+abbrev pub start : State
+start = record { published = false; seen = false; sides = [] }
+
+abbrev pub fresh_side : Side
+fresh_side = record { c = []; end_c = false; end_t = false; dialled = false }
+
+-- ---- the conditions of order
+
+-- the test of an association that is open
+abbrev pub on_side : Option Side → (Side → Bool) → Bool
+on_side None test = false
+on_side (Some side) test = test side
+
+-- associations are numbered from 1
+abbrev pub side_of : State → ℕ → Option Side
+side_of s zero = None
+side_of s (suc k) = slice_get s.sides k
+
+abbrev pub may_send : List ℕ → Side → Bool
+may_send bytes side = not side.end_c && nat_le (length side.c + length bytes) 65535 && is_served_input (side.c ++ bytes)
+
+abbrev pub may_end : Side → Bool
+may_end side = not side.end_c && is_whole_input side.c
+
+-- whether a line keeps its condition
+abbrev pub allows : State → ScriptLine → Bool
+allows s (ScriptLine.Publish k) = not s.published
+allows s (ScriptLine.See w) = s.published
+allows s (ScriptLine.Open w a peer local) = a == length s.sides + 1
+allows s (ScriptLine.Client a bytes) = on_side (side_of s a) (may_send bytes)
+allows s (ScriptLine.ClientEnd a) = on_side (side_of s a) may_end
+allows s (ScriptLine.TargetEnd a) = on_side (side_of s a) (λ side. not side.end_t)
+allows s (ScriptLine.Dial a outer) = on_side (side_of s a) (λ side. not side.dialled)
+allows s (ScriptLine.Turn w a) = s.seen && on_side (side_of s a) (λ side. true)
+allows s _ = false
+
+-- ---- what the lines say so far
+
+abbrev pub with_side : State → ℕ → (Side → Side) → Option Side → State
+with_side s a change None = s
+with_side s a change (Some side) = record s { sides = slice_set s.sides (a - 1) (change side) }
+
+abbrev pub change_side : State → ℕ → (Side → Side) → State
+change_side s a change = with_side s a change (side_of s a)
+
+-- what the lines say behind a line
+abbrev pub after : State → ScriptLine → State
+after s (ScriptLine.Publish k) = record s { published = true }
+after s (ScriptLine.See w) = record s { seen = true }
+after s (ScriptLine.Open w a peer local) = record s { sides = s.sides ++ fresh_side ∷ [] }
+after s (ScriptLine.Client a bytes) = change_side s a (λ side. record side { c = side.c ++ bytes })
+after s (ScriptLine.ClientEnd a) = change_side s a (λ side. record side { end_c = true })
+after s (ScriptLine.TargetEnd a) = change_side s a (λ side. record side { end_t = true })
+after s (ScriptLine.Dial a outer) = change_side s a (λ side. record side { dialled = true })
+after s _ = s
+
+-- ---- the forms that are served
+
+abbrev pub IsV4 : Endpoint → Type 0
+IsV4 e = (n : ℕ) × (e.addr ≡ Addr.V4 n)
+
+abbrev pub IsServedOutcome : Outer → Type 0
+IsServedOutcome (Outer.Up local) = IsV4 local
+IsServedOutcome Outer.Refused = Unit {0}
+IsServedOutcome _ = ⊥
+
+-- what is served of a line, whatever stands before it
+abbrev pub IsServedForm : ScriptLine → Type 0
+IsServedForm (ScriptLine.Publish k) = IsPlain k
+IsServedForm (ScriptLine.See w) = w ≡ 1
+IsServedForm (ScriptLine.Open w a peer local) = (w ≡ 1) × IsV4 peer × IsV4 local
+IsServedForm (ScriptLine.Client a bytes) = Unit {0}
+IsServedForm (ScriptLine.ClientEnd a) = Unit {0}
+IsServedForm (ScriptLine.TargetEnd a) = Unit {0}
+IsServedForm (ScriptLine.Dial a outer) = IsServedOutcome outer
+IsServedForm (ScriptLine.Turn w a) = w ≡ 1
+IsServedForm _ = ⊥
+
+-- ---- a script that is served
+
+abbrev pub IsServedFrom : State → List ScriptLine → Type 0
+IsServedFrom s [] = Unit {0}
+IsServedFrom s (l ∷ ls) = IsServedForm l × (allows s l ≡ true) × IsServedFrom (after s l) ls
+
+abbrev pub IsServed : List ScriptLine → Type 0
+IsServed ls = IsServedFrom start ls
+
+-- whether a line was allowed, and then the state behind it
+abbrev pub Allowed : State → State → ScriptLine → Bool → Type 0
+Allowed old new l true = (allows old l ≡ true) × (new ≡ after old l)
+Allowed old new l false = allows old l ≡ false

@@ -1,0 +1,125 @@
+-- What a script's text is read as.
+use Rattle.std.specs.Prelude.{◌≡◌, ◌<◌, ◌≤◌, ◌+◌, ◌⊎◌, ℕ, Bool, true, false, List, [], ◌∷◌, length, codes, Result, Ok, Err, Option, Some, None}
+use denote.Ref.{Bor}
+use Rattle.conf_model.specs.declared.config.Config.{Config}
+use Rattle.socks_machine.specs.declared.script.ScriptLine.{ScriptLine}
+use Rattle.replay_script.specs.declared.entry.Entry.{Entry}
+use Rattle.replay_script.specs.declared.fault.ScriptFault.{ScriptFault}
+use Rattle.replay_script.specs.declared.fault.ScriptKind.{ScriptKind}
+use Rattle.replay_script.specs.declared.state.State.{State}
+use Rattle.replay_script.specs.Cuts.{IsLine}
+use Rattle.replay_script.specs.Conf.{IsPublish}
+use Rattle.replay_script.specs.Forms.{Spells, is_skipped}
+use Rattle.replay_script.specs.Conditions.{allows, after, start}
+
+-- the text is one line of this entry
+abbrev pub SpellsEntry : List ℕ → Entry → Type 0
+SpellsEntry text Entry.Skipped = is_skipped text ≡ true
+SpellsEntry text (Entry.Served l) = Spells text l
+
+-- the text begins with this entry, which has so many lines of text
+abbrev pub Begins : List ℕ → Entry → ℕ → List ℕ → Type 0
+Begins text entry lines behind =
+    ((line : List ℕ) × IsLine text line behind × SpellsEntry line entry × (lines ≡ 1))
+    ⊎ ((config : Config) × IsPublish text config lines behind × (entry ≡ Entry.Served (ScriptLine.Publish config)))
+
+abbrev pub entry_allowed : State → Entry → Bool
+entry_allowed s Entry.Skipped = true
+entry_allowed s (Entry.Served l) = allows s l
+
+abbrev pub behind_entry : State → Entry → State
+behind_entry s Entry.Skipped = s
+behind_entry s (Entry.Served l) = after s l
+
+-- whether an entry was allowed, and then the state behind it
+abbrev pub Entered : State → State → Entry → Bool → Type 0
+Entered old new entry true = (entry_allowed old entry ≡ true) × (new ≡ behind_entry old entry)
+Entered old new entry false = entry_allowed old entry ≡ false
+
+-- an entry at the front of the text that keeps its condition
+pub record Serves (s : State) (text : List ℕ) (entry : Entry) (lines : ℕ) (behind : List ℕ) : Type 0 where
+  pub begins : Begins text entry lines behind
+  pub allowed : entry_allowed s entry ≡ true
+
+-- the text, whose first line has the number at, is these entries, each of a served form under its condition, and a rest
+abbrev pub Reads : State → List ℕ → ℕ → List Entry → List ℕ → State → ℕ → Type 0
+Reads s text at [] rest now number = (rest ≡ text) × (now ≡ s) × (number ≡ at)
+Reads s text at (entry ∷ entries) rest now number =
+    (lines : ℕ) × (behind : List ℕ) × Serves s text entry lines behind × Reads (behind_entry s entry) behind (at + lines) entries rest now number
+
+-- the entries without those that are skipped
+abbrev pub lines_of : List Entry → List ScriptLine
+lines_of [] = []
+lines_of (Entry.Skipped ∷ entries) = lines_of entries
+lines_of (Entry.Served l ∷ entries) = l ∷ lines_of entries
+
+-- the text begins with no entry that is served
+abbrev pub Stuck : State → List ℕ → Type 0
+Stuck s text = (0 < length text) × ((entry : Entry) (lines : ℕ) (behind : List ℕ) → Serves s text entry lines behind → ⊥)
+
+abbrev pub header : List ℕ
+header = codes "sockd-script 1"
+
+abbrev pub longest : ℕ
+longest = 67108864
+
+-- the text behind the header is these lines
+pub record AreLines (text : List ℕ) (ls : List ScriptLine) : Type 0 where
+  pub entries : List Entry
+  pub last : State
+  pub number : ℕ
+  pub reading : Reads start text 2 entries [] last number
+  pub shown : ls ≡ lines_of entries
+
+-- the first line behind the header that isn't served has this number
+pub record IsStuckAt (text : List ℕ) (number : ℕ) : Type 0 where
+  pub entries : List Entry
+  pub rest : List ℕ
+  pub last : State
+  pub reading : Reads start text 2 entries rest last number
+  pub stuck : Stuck last rest
+
+abbrev pub OnLinesFault : List ℕ → ℕ → ScriptKind → Type 0
+OnLinesFault text number ScriptKind.Length = ⊥
+OnLinesFault text number ScriptKind.Header = ⊥
+OnLinesFault text number ScriptKind.NotBuilt = IsStuckAt text number
+OnLinesFault text number ScriptKind.Memory = Unit {0}
+
+abbrev pub OnLines : List ℕ → Result (List ScriptLine) ScriptFault → Type 0
+OnLines text (Ok ls) = AreLines text ls
+OnLines text (Err fault) = OnLinesFault text fault.line fault.kind
+
+-- the text begins with a served entry and the state goes on behind it, or it begins with none
+abbrev pub MayStep : State → State → List ℕ → Option (Entry × ℕ × Bor (List ℕ)) → Type 0
+MayStep old new text None = (entry : Entry) (lines : ℕ) (behind : List ℕ) → Serves old text entry lines behind → ⊥
+MayStep old new text (Some p) = Serves old text p.0 p.1 p.2.now × (new ≡ behind_entry old p.0)
+
+-- the text is this script
+pub record IsScript (text : List ℕ) (ls : List ScriptLine) : Type 0 where
+  pub small : length text ≤ longest
+  pub behind : List ℕ
+  pub head : IsLine text header behind
+  pub lines : AreLines behind ls
+
+-- the first line that isn't served has this number
+pub record IsNotBuilt (text : List ℕ) (number : ℕ) : Type 0 where
+  pub small : length text ≤ longest
+  pub behind : List ℕ
+  pub head : IsLine text header behind
+  pub stuck : IsStuckAt behind number
+
+-- the first line isn't the header
+pub record IsHeaderless (text : List ℕ) (number : ℕ) : Type 0 where
+  pub small : length text ≤ longest
+  pub missing : (behind : List ℕ) → IsLine text header behind → ⊥
+  pub number_is : number ≡ 1
+
+abbrev pub Faulty : List ℕ → ℕ → ScriptKind → Type 0
+Faulty text number ScriptKind.Length = (longest < length text) × (number ≡ 0)
+Faulty text number ScriptKind.Header = IsHeaderless text number
+Faulty text number ScriptKind.NotBuilt = IsNotBuilt text number
+Faulty text number ScriptKind.Memory = Unit {0}
+
+abbrev pub OnRead : List ℕ → Result (List ScriptLine) ScriptFault → Type 0
+OnRead text (Ok script) = IsScript text script
+OnRead text (Err fault) = Faulty text fault.line fault.kind

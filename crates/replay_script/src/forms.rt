@@ -1,0 +1,127 @@
+ghost use Rattle.std.specs.Prelude.{◌≡◌, ◌++◌, ℕ, List, IfOk, MatchOption, codes};
+ghost use Rattle.addr_pattern.specs.declared.endpoint.Endpoint.{Endpoint as SomeEndpoint};
+ghost use Rattle.socks_machine.specs.declared.world.Outer.{Outer as SomeOuter};
+ghost use Rattle.socks_machine.specs.declared.script.ScriptLine.{ScriptLine as SomeLine};
+ghost use Rattle.replay_script.specs.Forms.{Spells, IsNumbered, IsOpen, IsClient, IsDial, IsOutcome, is_skipped as skips};
+
+use crate::cuts::{behind, cut, number, number_then, same};
+use crate::values::{endpoint, hex};
+use addr_pattern::Endpoint;
+use conf_text::Text;
+use socks_machine::{Outer, ScriptLine};
+use std::alloc::{AllocError, Global};
+
+/// The association behind a word.
+pub fn numbered(alloc: Global, text: &[u8], front: &[u8]) -> Result<Option<u64>, AllocError>
+    ensures { IfOk result (λ found. MatchOption found ((n : ℕ) → IsNumbered front.now text.now n → ⊥) (λ n. IsNumbered front.now text.now n)) }
+{
+    let Some(rest) = behind(text, front) else {
+        return Ok(None);
+    };
+    number(alloc, rest, u64::MAX)
+}
+
+fn open_line(alloc: Global, text: &[u8]) -> Result<Option<(u64, Endpoint, Endpoint)>, AllocError>
+    ensures { IfOk result (λ found. MatchOption found ((n : ℕ) (peer at : SomeEndpoint) → IsOpen text.now n peer at → ⊥) (λ p. IsOpen text.now p.0 p.1 p.2)) }
+{
+    let Some(rest) = behind(text, b"open 1 ") else {
+        return Ok(None);
+    };
+    let Some((n, ends)) = number_then(alloc, rest, b' ', u64::MAX)? else {
+        return Ok(None);
+    };
+    let Some((front, back)) = cut(ends, b' ') else {
+        return Ok(None);
+    };
+    let Some(peer) = endpoint(alloc, front)? else {
+        return Ok(None);
+    };
+    let Some(at) = endpoint(alloc, back)? else {
+        return Ok(None);
+    };
+    Ok(Some((n, peer, at)))
+}
+
+fn client_line(alloc: Global, text: &[u8]) -> Result<Option<(u64, Text)>, AllocError>
+    ensures { IfOk result (λ found. MatchOption found ((n : ℕ) (bytes : List ℕ) → IsClient text.now n bytes → ⊥) (λ p. IsClient text.now p.0 p.1)) }
+{
+    let Some(rest) = behind(text, b"client ") else {
+        return Ok(None);
+    };
+    let Some((n, digits)) = number_then(alloc, rest, b' ', u64::MAX)? else {
+        return Ok(None);
+    };
+    let Some(bytes) = hex(alloc, digits)? else {
+        return Ok(None);
+    };
+    Ok(Some((n, bytes)))
+}
+
+/// How a dial comes out.
+fn outcome(alloc: Global, text: &[u8]) -> Result<Option<Outer>, AllocError>
+    ensures { IfOk result (λ found. MatchOption found ((outer : SomeOuter) → IsOutcome text.now outer → ⊥) (λ outer. IsOutcome text.now outer)) }
+{
+    if same(text, b"refused") {
+        return Ok(Some(Outer::Refused));
+    }
+    let Some(back) = behind(text, b"up ") else {
+        return Ok(None);
+    };
+    let Some(local) = endpoint(alloc, back)? else {
+        return Ok(None);
+    };
+    Ok(Some(Outer::Up(local)))
+}
+
+fn dial_line(alloc: Global, text: &[u8]) -> Result<Option<(u64, Outer)>, AllocError>
+    ensures { IfOk result (λ found. MatchOption found ((n : ℕ) (outer : SomeOuter) → IsDial text.now n outer → ⊥) (λ p. IsDial text.now p.0 p.1)) }
+{
+    let Some(rest) = behind(text, b"dial ") else {
+        return Ok(None);
+    };
+    let Some((n, back)) = number_then(alloc, rest, b' ', u64::MAX)? else {
+        return Ok(None);
+    };
+    let Some(outer) = outcome(alloc, back)? else {
+        return Ok(None);
+    };
+    Ok(Some((n, outer)))
+}
+
+/// The line that a text spells.
+pub fn line_of(alloc: Global, text: &[u8]) -> Result<Option<ScriptLine>, AllocError>
+    ensures { IfOk result (λ found. MatchOption found ((l : SomeLine) → Spells text.now l → ⊥) (λ l. Spells text.now l)) }
+{
+    if same(text, b"see 1") {
+        return Ok(Some(ScriptLine::See(1)));
+    }
+    if let Some(number) = numbered(alloc, text, b"turn 1 ")? {
+        return Ok(Some(ScriptLine::Turn(1, number)));
+    }
+    if let Some(number) = numbered(alloc, text, b"clientend ")? {
+        return Ok(Some(ScriptLine::ClientEnd(number)));
+    }
+    if let Some(number) = numbered(alloc, text, b"targetend ")? {
+        return Ok(Some(ScriptLine::TargetEnd(number)));
+    }
+    if let Some((number, outer)) = dial_line(alloc, text)? {
+        return Ok(Some(ScriptLine::Dial(number, outer)));
+    }
+    if let Some((number, bytes)) = client_line(alloc, text)? {
+        return Ok(Some(ScriptLine::Client(number, bytes)));
+    }
+    if let Some((number, peer, local)) = open_line(alloc, text)? {
+        return Ok(Some(ScriptLine::Open(1, number, peer, local)));
+    }
+    Ok(None)
+}
+
+/// Whether a line says nothing.
+pub fn is_skipped(text: &[u8]) -> bool
+    ensures { result ≡ skips text.now }
+{
+    match text.first() {
+        None => true,
+        Some(byte) => *byte == b'#',
+    }
+}

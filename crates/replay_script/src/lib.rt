@@ -1,0 +1,22 @@
+//! The reader of scripts: the lines of one worker that the first path serves.
+#![tactic(auto)]
+
+mod conf;
+mod cuts;
+mod entry;
+mod fault;
+mod forms;
+mod hosts;
+mod laws;
+mod script;
+mod state;
+mod values;
+
+pub use entry::Entry;
+pub use fault::{ScriptFault, ScriptKind};
+pub use laws::{faultless_script, one_fault, one_reading};
+pub use script::read_script;
+pub use state::{Side, State};
+
+#[cfg(test)]
+mod tests;

@@ -1,0 +1,154 @@
+ghost use Rattle.std.specs.Prelude.{◌≡◌, ◌≤◌, ◌++◌, [], ◌∷◌, ℕ, List as Items, length, IfOk, OnOk, MatchOption};
+ghost use Rattle.replay_script.specs.declared.entry.Entry.{Entry as SomeEntry};
+ghost use Rattle.replay_script.specs.Conditions.{IsServed};
+ghost use Rattle.replay_script.specs.Cuts.{IsLine};
+ghost use Rattle.replay_script.specs.Script.{OnRead, OnLines, MayStep, Entered, Begins, SpellsEntry, lines_of, longest};
+
+use crate::conf::publish;
+use crate::cuts::{first_line, same};
+use crate::entry::Entry;
+use crate::fault::{ScriptFault, ScriptKind};
+use crate::forms::{is_skipped, line_of};
+use crate::state::State;
+use conf_text::List;
+use socks_machine::ScriptLine;
+use std::alloc::{AllocError, Global};
+
+/// What a text line is.
+fn entry_of(alloc: Global, text: &[u8]) -> Result<Option<Entry>, AllocError>
+    ensures { IfOk result (λ found. MatchOption found ((entry : SomeEntry) → SpellsEntry text.now entry → ⊥) (λ entry. SpellsEntry text.now entry)) }
+{
+    if is_skipped(text) {
+        return Ok(Some(Entry::Skipped));
+    }
+    let Some(line) = line_of(alloc, text)? else {
+        return Ok(None);
+    };
+    Ok(Some(Entry::Served(line)))
+}
+
+/// The one text line at the front of a text, and the text behind it.
+fn single(alloc: Global, text: &[u8]) -> Result<Option<(Entry, &[u8])>, AllocError>
+    ensures { IfOk result (λ found. MatchOption found ((entry : SomeEntry) (line behind : Items ℕ) → IsLine text.now line behind → SpellsEntry line entry → ⊥)
+        (λ p. (line : Items ℕ) × IsLine text.now line p.1.now × SpellsEntry line p.0)) }
+{
+    let Some((line, behind)) = first_line(text) else {
+        return Ok(None);
+    };
+    match entry_of(alloc, line) {
+        Err(e) => Err(e),
+        Ok(None) => Ok(None),
+        Ok(Some(entry)) => Ok(Some((entry, behind))),
+    }
+}
+
+/// The entry at the front of a text, its count of lines, and the text behind it.
+fn begins(alloc: Global, text: &[u8]) -> Result<Option<(Entry, u64, &[u8])>, AllocError>
+    ensures { IfOk result (λ found. MatchOption found ((entry : SomeEntry) (lines : ℕ) (behind : Items ℕ) → Begins text.now entry lines behind → ⊥)
+        (λ p. Begins text.now p.0 p.1 p.2.now)) }
+{
+    match publish(alloc, text) {
+        Err(e) => return Err(e),
+        Ok(Some((config, lines, behind))) => {
+            let entry = Entry::Served(ScriptLine::Publish(config));
+            return Ok(Some((entry, lines, behind)));
+        }
+        Ok(None) => {}
+    }
+    match single(alloc, text) {
+        Err(e) => Err(e),
+        Ok(None) => Ok(None),
+        Ok(Some((entry, behind))) => Ok(Some((entry, 1, behind))),
+    }
+}
+
+/// Goes on behind an entry, and says whether it keeps its condition.
+fn enters(alloc: Global, state: &mut State, entry: &Entry) -> Result<bool, AllocError>
+    ensures { IfOk result (λ done. Entered state.old state.new entry.now done) }
+{
+    match entry {
+        Entry::Skipped => Ok(true),
+        Entry::Served(line) => state.step(alloc, line),
+    }
+}
+
+/// The served entry at the front of a text.
+fn served<'a>(
+    alloc: Global,
+    state: &mut State,
+    text: &'a [u8],
+) -> Result<Option<(Entry, u64, &'a [u8])>, AllocError>
+    ensures { IfOk result (λ found. MayStep state.old state.new text.now found) }
+{
+    match begins(alloc, text) {
+        Err(e) => Err(e),
+        Ok(None) => Ok(None),
+        Ok(Some((entry, lines, behind))) => match enters(alloc, state, &entry) {
+            Err(e) => Err(e),
+            Ok(false) => Ok(None),
+            Ok(true) => Ok(Some((entry, lines, behind))),
+        },
+    }
+}
+
+/// Goes on with an entry, which adds a line unless it is skipped.
+fn add_entry(lines: &mut List<ScriptLine>, entry: Entry) -> Result<(), AllocError>
+    ensures { OnOk result (lines.new ≡ lines.old ++ lines_of (entry ∷ [])) }
+{
+    match entry {
+        Entry::Skipped => Ok(()),
+        Entry::Served(line) => lines.push(line),
+    }
+}
+
+/// The lines behind the header.
+fn read_lines(alloc: Global, text: &[u8]) -> Result<List<ScriptLine>, ScriptFault>
+    requires { length text.now ≤ longest }
+    ensures { OnLines text.now result }
+{
+    let mut state = State::make(alloc);
+    let mut lines = List::make(alloc);
+    let mut rest = text;
+    let mut number: u64 = 2;
+    'reading: while !rest.is_empty() {
+        match served(alloc, &mut state, rest) {
+            Err(e) => return Err(ScriptFault::from(e)),
+            Ok(None) => {
+                return Err(ScriptFault {
+                    line: number as u32,
+                    kind: ScriptKind::NotBuilt,
+                });
+            }
+            Ok(Some((entry, count, behind))) => {
+                add_entry(&mut lines, entry)?;
+                rest = behind;
+                number += count;
+            }
+        }
+    }
+    Ok(lines)
+}
+
+/// The lines of the script that a text spells. A last line without its LF is read.
+pub fn read_script(alloc: Global, text: &[u8]) -> Result<List<ScriptLine>, ScriptFault>
+    ensures read { OnRead text.now result }
+    ensures served { IfOk result (λ lines. IsServed lines) }
+{
+    if text.len() > 67_108_864 {
+        return Err(ScriptFault {
+            line: 0,
+            kind: ScriptKind::Length,
+        });
+    }
+    let headless = ScriptFault {
+        line: 1,
+        kind: ScriptKind::Header,
+    };
+    let Some((line, behind)) = first_line(text) else {
+        return Err(headless);
+    };
+    if !same(line, b"sockd-script 1") {
+        return Err(headless);
+    }
+    read_lines(alloc, behind)
+}
