@@ -1,3 +1,14 @@
+pub mod Answered
+pub mod Carrying
+pub mod Closing
+pub mod Draining
+pub mod Granting
+pub mod Hearing
+pub mod Lines
 pub mod Plain
+pub mod Preludes
+pub mod Reaching
+pub mod Reads
+pub mod Sending
 pub mod Stands
 pub mod Turns

@@ -161,7 +161,7 @@ IsThereAnd None p = ⊥
 IsThereAnd (Some link) p = p link
 
 -- why nothing more was read of a side: it has ended, or answered NotYet, a quantum was taken, a call failed, or the
--- phase behind all that was taken doesn't read it
+-- phase behind all that was taken, but for the ends, doesn't read it
 pub data StopsReading (was ends idle : Bool) (part : List ℕ) (fault : Option Object) (Unread : Type 0) : Type 0 where
   ended : was ≡ true → StopsReading was ends idle part fault Unread
   ends' : ends ≡ true → StopsReading was ends idle part fault Unread
@@ -170,10 +170,10 @@ pub data StopsReading (was ends idle : Bool) (part : List ℕ) (fault : Option O
   failed : is_some fault ≡ true → StopsReading was ends idle part fault Unread
   unread : Unread → StopsReading was ends idle part fault Unread
 
--- the phase behind all that was taken reads no more of a side
-pub record Unread (s : Context) (event : TurnEvent) (behind : Record) (reads : Record → Phase → Bool) : Type 0 where
-  pub end_c : event.end_c ≡ false
-  pub end_t : event.end_t ≡ false
+-- the phase behind all that was taken, but for the ends, reads no more of a side
+pub record Unread (s : Context) (old : Record) (event : TurnEvent) (reads : Record → Phase → Bool) : Type 0 where
+  pub behind : Record
+  pub taken' : taken s.basis s.generation (s.config).methods (without_ends event) old ≡ Some behind
   pub unread' : reads behind (phase s.basis behind) ≡ false
 
 -- An end was read where the phase behind all that was taken, but for the ends, reads that side. In Relay, where no call
@@ -221,9 +221,9 @@ pub record Turns {L : Type 0} (told : L → Told) (counts : L → Counts) (stand
   pub plan' : PlanStays net net' acts.outer (is_some (reached_at (result.left).decisions))
   pub outer' : IsOuterOf net (phase s.basis behind) acts.outer
   pub stops_c : (worker : ℕ) → StopsReading a.state.end_c acts.end_c acts.idle_c acts.c acts.fault
-      (Unread s (event_of worker a.state.number now acts (mark_of next)) behind (reads_client s.basis (links acts.idle_c acts.idle_t) (links acts.full_c acts.full_t)))
+      (Unread s a.state (event_of worker a.state.number now acts (mark_of next)) (reads_client s.basis (links acts.idle_c acts.idle_t) (links acts.full_c acts.full_t)))
   pub stops_t : (worker : ℕ) → StopsReading a.state.end_t acts.end_t acts.idle_t acts.t acts.fault
-      (Unread s (event_of worker a.state.number now acts (mark_of next)) behind reads_target)
+      (Unread s a.state (event_of worker a.state.number now acts (mark_of next)) reads_target)
   pub reads_end_c : (worker : ℕ) → acts.end_c ≡ true → ReadsEnd s a.state result.left (event_of worker a.state.number now acts (mark_of next)) a.state.end_c acts.c
       (reads_client s.basis (links acts.idle_c acts.idle_t) (links acts.full_c acts.full_t)) waiting_for_target
   pub reads_end_t : (worker : ℕ) → acts.end_t ≡ true → ReadsEnd s a.state result.left (event_of worker a.state.number now acts (mark_of next)) a.state.end_t acts.t reads_target waiting_for_client

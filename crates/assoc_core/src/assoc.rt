@@ -1,3 +1,5 @@
+ghost use Rattle.std.specs.Prelude.{◌≡◌};
+
 use addr_pattern::Endpoint;
 use conf_text::{List, Text};
 use net_ends::Link;
@@ -69,7 +71,9 @@ impl<L: Link> Assoc<L> {
     }
 
     /// The association at its end.
-    pub(crate) fn end(self) -> Ended<L> {
+    pub(crate) fn end(self) -> Ended<L>
+        ensures { result ≡ record { state = self.state; client = self.client; target = self.target } }
+    {
         Ended {
             state: self.state,
             client: self.client,

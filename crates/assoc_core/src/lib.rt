@@ -1,9 +1,20 @@
 //! One turn of one association: it reads, makes its one outer call, and writes.
 #![tactic(auto)]
 
+mod accept;
 mod assoc;
+mod carry;
+mod close;
+mod closing;
+mod grant;
+mod hear;
 mod prelude;
+mod reach;
 mod read;
+mod refusals;
+mod relay;
+mod replies;
 mod send;
+mod talk;
 
 pub use assoc::{Assoc, Ended, Next};

@@ -1,3 +1,7 @@
+ghost use Rattle.std.specs.Prelude.{◌≡◌};
+ghost use Rattle.assoc_core.specs.Plain.{is_greeted as greets};
+ghost use Rattle.assoc_core.specs.Preludes.{IsRead};
+
 use addr_pattern::{Addr, Endpoint};
 
 /// The length of a greeting without a login and a request for an IPv4 address.
@@ -15,7 +19,9 @@ pub enum Prelude {
 }
 
 /// Reads the prelude of a client (RFC 1928, sections 3 and 4).
-pub fn read_prelude(c: &[u8]) -> Prelude {
+pub fn read_prelude(c: &[u8]) -> Prelude
+    ensures { IsRead c.now result }
+{
     match c {
         [] => Prelude::More,
         [5, 1, 0, 5, 1, _, 1, a, b, c, d, p, q, ..] => Prelude::Whole(Endpoint {
@@ -28,6 +34,8 @@ pub fn read_prelude(c: &[u8]) -> Prelude {
 }
 
 /// Whether the greeting is whole.
-pub fn is_greeted(c: &[u8]) -> bool {
+pub fn is_greeted(c: &[u8]) -> bool
+    ensures { result ≡ greets c.now }
+{
     matches!(c, [5, _, _, ..])
 }

@@ -1,3 +1,8 @@
+ghost use Rattle.std.specs.Prelude.{◌<◌, IfOk};
+ghost use Rattle.net_ends.specs.Counts.{Later, ReadCause};
+ghost use Rattle.net_ends.specs.Told.{GivesArrived};
+ghost use Rattle.assoc_core.specs.Reads.{ReadsMore, reading_of};
+
 use conf_text::Text;
 use net_ends::{Link, Reading};
 use std::alloc::{AllocError, Global};
@@ -22,7 +27,13 @@ pub fn read_more<L: Link>(
     text: &mut Text,
     link: &mut L,
     most: usize,
-) -> Result<More, AllocError> {
+) -> Result<More, AllocError>
+    requires { 0 < most }
+    ensures read { IfOk result (λ answer. ReadsMore (L.told link.old) (L.told link.new) text.old text.new most answer) }
+    ensures arrived { IfOk result (λ answer. GivesArrived (L.told link.new) (reading_of answer)) }
+    ensures later { IfOk result (λ answer. Later (L.counts link.old) (L.counts link.new)) }
+    ensures cause { IfOk result (λ answer. ReadCause (L.counts link.old) (L.counts link.new) (reading_of answer)) }
+{
     let mut held = mem::replace(text, Text::make(alloc)).into_vec();
     if held.reserve(PIECE).is_err() {
         *text = Text::from_vec(held);

@@ -1,3 +1,8 @@
+ghost use Rattle.std.specs.Prelude.{◌≡◌, ◌≤◌, length, take, drop, IfOk};
+ghost use Rattle.net_ends.specs.Told.{more};
+ghost use Rattle.net_ends.specs.Counts.{Later};
+ghost use Rattle.assoc_core.specs.Sending.{SendEnds, Sends};
+
 use conf_text::Text;
 use net_ends::{Link, Writing};
 use std::alloc::{AllocError, Global};
@@ -12,7 +17,12 @@ pub enum Sent {
 }
 
 /// Writes until nothing is left, or the link takes nothing or fails; and how many bytes it took.
-pub fn send_all<L: Link>(link: &mut L, bytes: &[u8]) -> (usize, Sent) {
+pub fn send_all<L: Link>(link: &mut L, bytes: &[u8]) -> (usize, Sent)
+    ensures within { result.0 ≤ length bytes.now }
+    ensures told { L.told link.new ≡ record (L.told link.old) { taken = more (L.told link.old).taken (take result.0 bytes.now) } }
+    ensures later { Later (L.counts link.old) (L.counts link.new) }
+    ensures ends { SendEnds (L.told link.new) (L.counts link.old) (L.counts link.new) (drop result.0 bytes.now) result.1 }
+{
     let mut at = 0;
     while at < bytes.len() {
         match link.write(&bytes[at..]) {
@@ -30,7 +40,9 @@ pub fn send_pending<L: Link>(
     link: &mut L,
     sent: &mut Text,
     pending: &[u8],
-) -> Result<Sent, AllocError> {
+) -> Result<Sent, AllocError>
+    ensures { IfOk result (λ outcome. Sends (L.told link.old) (L.told link.new) (L.counts link.old) (L.counts link.new) sent.old sent.new pending.now outcome) }
+{
     let mut held = mem::replace(sent, Text::make(alloc)).into_vec();
     if held.reserve(pending.len()).is_err() {
         *sent = Text::from_vec(held);

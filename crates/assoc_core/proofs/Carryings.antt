@@ -1,0 +1,164 @@
+-- How reads add up to what one turn takes of a source.
+use Rattle.std.proofs.Common.{◌≡◌, ◌+◌, ◌-◌, ◌<◌, ◌≤◌, ℕ, Bool, true, false, List, [], ◌++◌, length, refl, ap, sym, subst, ◌∙◌, append_assoc, length-append, arith, nat_le, le-leb}
+use Rattle.std.proofs.lemmas.Bool.{lt-leb}
+use Rattle.std.proofs.lemmas.List.{append-nil}
+use mathlib.Core.List.{IsPrefix}
+use Rattle.net_ends.specs.Counts.{Counts, Later}
+use Rattle.net_ends.specs.Told.{Told, more, GivesArrived}
+use Rattle.net_ends.specs.declared.link.Reading.{Reading}
+use Rattle.socks_machine.specs.Turn.{quantum}
+use Rattle.assoc_core.specs.declared.carry.Give.{Give}
+use Rattle.assoc_core.specs.declared.carry.Take.{Take}
+use Rattle.assoc_core.specs.Carrying.{TakesPart, TakeEnds, GivesPart, is_read, is_quantum}
+use Rattle.assoc_core.specs.Reads.{ComesOf, Rests}
+use Rattle.assoc_core.specs.Stands.{EndsBehind, GivesFirst}
+use Rattle.assoc_core.proofs.Sendings.{more-nil, more-more, later-same, later-on}
+
+-- bytes were read of a source, and so many more may be
+pub record TakesSoFar (old new : Told) (counts counts' : Counts) (before after : List ℕ) (left : ℕ) : Type 0 where
+  pub part : List ℕ
+  pub after' : after ≡ before ++ part
+  pub told' : new ≡ record old { given = more old.given part }
+  pub count : length part + left ≡ quantum
+  pub later : Later counts counts'
+  pub behind : EndsBehind old → EndsBehind new
+  pub first : GivesFirst old → GivesFirst new
+
+told-same : (old : Told) → old ≡ record old { given = more old.given [] }
+told-same old = λ i. record old { given = sym (more-nil old.given) i }
+
+pub starts : (told : Told) (counts : Counts) (text : List ℕ) → TakesSoFar told told counts counts text text quantum
+starts told counts text = record {
+  part = [];
+  after' = sym (append-nil text);
+  told' = told-same told;
+  count = refl;
+  later = later-same counts;
+  behind = λ h. h;
+  first = λ h. h;
+}
+
+pub goes-on : (old mid new : Told) (counts counts' counts'' : Counts) (before text after : List ℕ) (left most n : ℕ) → TakesSoFar old mid counts counts' before text left
+    → ComesOf mid new text after most n → most ≡ left → Later counts' counts'' → GivesArrived new (Reading.Got n)
+    → TakesSoFar old new counts counts'' before after (left - n)
+goes-on old mid new counts counts' counts'' before text after left most n h k same later arrived = record {
+  part = h.part ++ k.bytes;
+  after' = k.after' ∙ (ap (λ z. z ++ k.bytes) h.after' ∙ append_assoc before h.part k.bytes);
+  told' = k.told' ∙ (ap (λ (z : Told). let u : Told = record z { given = more z.given k.bytes } in u) h.told' ∙ (λ i. record old { given = more-more old.given h.part k.bytes i }));
+  count = omega (arith, h.count, k.count, k.within, same, length-append h.part k.bytes);
+  later = later-on counts counts' counts'' h.later later;
+  behind = λ x arrival given a b ended. absurd (clash new.ended ended (ap (λ z. z.ended) k.told' ∙ k.unended));
+  first = λ x arrival given a b. arrived arrival given a b;
+}
+  where
+    clash : (b : Bool) → b ≡ true → b ≡ false → ⊥
+    clash true e f = cc
+    clash false e f = cc
+
+prefix-same : (xs : List ℕ) → IsPrefix xs xs
+prefix-same xs = ([], append-nil xs)
+
+-- fewer than a quantum were read
+pub fewer : (part : List ℕ) (left : ℕ) → length part + left ≡ quantum → 0 < left → nat_le quantum (length part) ≡ false
+fewer part left h some = lt-leb quantum (length part) (omega (arith, h, some))
+
+-- nothing was read
+pub unread : (told : Told) (counts : Counts) (text : List ℕ) (reads was : Bool) (take : Take) → TakeEnds told counts counts [] reads was take → is_quantum take ≡ false
+    → TakesPart told told counts counts text text reads was was take
+unread told counts text reads was take why fewer = record {
+  part = [];
+  ends = false;
+  after' = sym (append-nil text);
+  ended' = refl;
+  told' = told-same told;
+  may = record { bytes = λ h. cc; end = λ h. cc };
+  below = λ h. cc;
+  whole = sym fewer;
+  later = later-same counts;
+  why = why;
+  behind = λ h. h;
+  first = λ h. h;
+}
+
+-- a source that hasn't ended gave nothing more
+pub stops : (old mid new : Told) (counts counts' counts'' : Counts) (before text after : List ℕ) (left : ℕ) (reads was ended : Bool) (take : Take) → (h : TakesSoFar old mid counts counts' before text left)
+    → Rests mid new text after → Later counts' counts'' → was ≡ false → ended ≡ false → TakeEnds new counts counts'' h.part reads ended take → nat_le quantum (length h.part) ≡ is_quantum take
+    → TakesPart old new counts counts'' before after reads was ended take
+stops old mid new counts counts' counts'' before text after left reads was ended take h k later unended unended' why whole = record {
+  part = h.part;
+  ends = false;
+  after' = k.after' ∙ h.after';
+  ended' = unended' ∙ sym unended;
+  told' = k.told' ∙ h.told';
+  may = record { bytes = λ some. unended; end = λ e. unended };
+  below = λ e. cc;
+  whole = whole;
+  later = later-on counts counts' counts'' h.later later;
+  why = why;
+  behind = λ x. subst EndsBehind (sym k.told') (h.behind x);
+  first = λ x. subst GivesFirst (sym k.told') (h.first x);
+}
+
+same : (told : Told) (text : List ℕ) → Rests told told text text
+same told text = record { after' = refl; told' = refl }
+
+-- a quantum was taken
+pub fills-quantum : (old new : Told) (counts counts' : Counts) (before after : List ℕ) (left : ℕ) (reads was ended : Bool) → TakesSoFar old new counts counts' before after left
+    → left ≤ 0 → was ≡ false → ended ≡ false → TakesPart old new counts counts' before after reads was ended Take.Quantum
+fills-quantum old new counts counts' before after left reads was ended h none unended unended' =
+    stops old new new counts counts' counts' before after after left reads was ended Take.Quantum h (same new after) (later-same counts') unended unended' (unended', omega (arith, h.count)) (le-leb quantum (length h.part) (omega (arith, h.count)))
+
+-- the source has ended
+pub ends-now : (old mid new : Told) (counts counts' counts'' : Counts) (before text after : List ℕ) (left : ℕ) (reads was : Bool) → TakesSoFar old mid counts counts' before text left
+    → (after ≡ text) × (new ≡ record mid { ended = true }) → Later counts' counts'' → GivesArrived new Reading.End → 0 < left → was ≡ false
+    → TakesPart old new counts counts'' before after reads was true Take.Ended
+ends-now old mid new counts counts' counts'' before text after left reads was h k later arrived some unended = record {
+  part = h.part;
+  ends = true;
+  after' = k.0 ∙ h.after';
+  ended' = refl;
+  told' = k.1 ∙ ap (λ (z : Told). let u : Told = record z { ended = true } in u) h.told';
+  may = record { bytes = λ e. unended; end = λ e. unended };
+  below = λ e. omega (arith, h.count);
+  whole = fewer h.part left h.count some;
+  later = later-on counts counts' counts'' h.later later;
+  why = refl;
+  behind = λ x arrival given a b ended. arrived arrival given a b;
+  first = λ x arrival given a b. subst (λ (z : List ℕ). IsPrefix z arrival.bytes) (sym (arrived arrival given a b).0) (prefix-same arrival.bytes);
+}
+
+-- nothing was sent
+pub held : (told : Told) (counts : Counts) (text pending : List ℕ) (gives ends was : Bool) → gives ≡ false → GivesPart told told counts counts text text pending gives ends was was Give.Held
+held told counts text pending gives ends was none = record {
+  part = [];
+  rest = pending;
+  shuts = false;
+  pending' = refl;
+  after' = sym (append-nil text);
+  shut' = refl;
+  told' = λ i. record told { taken = sym (more-nil told.taken) i };
+  once = λ h. cc;
+  due = λ h. cc;
+  later = later-same counts;
+  why = none;
+}
+
+-- the same, for what is pending by another name
+pub gives-as : (old new : Told) (counts counts' : Counts) (before after pending pending' : List ℕ) (gives gives' ends ends' was shut : Bool) (give : Give)
+    → pending ≡ pending' → gives ≡ gives' → ends ≡ ends' → GivesPart old new counts counts' before after pending gives ends was shut give
+    → GivesPart old new counts counts' before after pending' gives' ends' was shut give
+gives-as old new counts counts' before after pending pending' gives gives' ends ends' was shut give h k l x =
+    subst (λ (z : List ℕ). GivesPart old new counts counts' before after z gives' ends' was shut give) h
+    (subst (λ (z : Bool). GivesPart old new counts counts' before after pending z ends' was shut give) k
+    (subst (λ (z : Bool). GivesPart old new counts counts' before after pending gives z was shut give) l x))
+
+pub takes-as : (old new : Told) (counts counts' : Counts) (before after : List ℕ) (reads reads' was ended : Bool) (take : Take)
+    → reads ≡ reads' → TakesPart old new counts counts' before after reads was ended take → TakesPart old new counts counts' before after reads' was ended take
+takes-as old new counts counts' before after reads reads' was ended take h x = subst (λ (z : Bool). TakesPart old new counts counts' before after z was ended take) h x
+
+pub was-read : (take : Take) → (take ≡ Take.Failed → ⊥) → is_read take ≡ true
+was-read Take.Unread h = refl
+was-read Take.Ended h = refl
+was-read Take.NotYet h = refl
+was-read Take.Quantum h = refl
+was-read Take.Failed h = absurd (h refl)

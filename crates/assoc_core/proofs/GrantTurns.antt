@@ -1,0 +1,364 @@
+-- The turn in which a request is whole: it is granted or refused, and the client is written to.
+use Rattle.std.proofs.Common.{◌≡◌, ℕ, ◌<◌, ◌≤◌, ◌-◌, Bool, true, false, ◌&&◌, ◌||◌, not, if◌then◌else◌, Option, Some, None, List, [], ◌∷◌, ◌++◌, length, drop, slice_set, refl, sym, ap, subst, ◌∙◌, inl, inr, is_some, length-append, arith}
+use Rattle.std.proofs.lemmas.List.{append-nil}
+use Rattle.std.proofs.Math.Seq.{set-append_seam}
+use mathlib.Core.List.{IsPrefix}
+use Rattle.addr_pattern.specs.declared.endpoint.Endpoint.{Endpoint}
+use Rattle.conf_model.specs.declared.config.Config.{Config}
+use Rattle.conf_model.specs.declared.protocol.Version.{Version}
+use Rattle.conf_model.specs.declared.user.User.{User}
+use Rattle.conf_model.specs.Handshake.{version_of}
+use Rattle.net_ends.specs.Counts.{Counts, Rose}
+use Rattle.net_ends.specs.Nets.{NetTold}
+use Rattle.net_ends.specs.Told.{Told, more}
+use Rattle.rule_list.specs.declared.facts.Facts.{Facts}
+use Rattle.rule_list.specs.Rules.{route_of, first, route_matches}
+use Rattle.session_desk.specs.Calls.{Grants}
+use Rattle.socks_machine.specs.declared.cause.Cause.{Cause}
+use Rattle.socks_machine.specs.declared.cause.StopBy.{StopBy}
+use Rattle.socks_machine.specs.declared.lines.GrantLine.{GrantLine}
+use Rattle.socks_machine.specs.declared.lines.Line.{Line}
+use Rattle.socks_machine.specs.declared.lines.Said.{Said}
+use Rattle.socks_machine.specs.declared.record.Decision.{Decision}
+use Rattle.socks_machine.specs.declared.record.Record.{Record}
+use Rattle.socks_machine.specs.declared.world.NextMark.{NextMark}
+use Rattle.socks_machine.specs.declared.world.Object.{Object}
+use Rattle.socks_machine.specs.declared.world.Outer.{Outer}
+use Rattle.socks_machine.specs.declared.world.TurnEvent.{TurnEvent}
+use Rattle.socks_machine.specs.Calls.{TurnResult, decided, call_grant, refusal_full, blocked}
+use Rattle.socks_machine.specs.Datagrams.{owed_datagrams}
+use Rattle.socks_machine.specs.History.{at_grant}
+use Rattle.socks_machine.specs.InTurn.{InTurn, Called, Takes}
+use Rattle.socks_machine.specs.Owed.{owed_to_client, owed_to_target}
+use Rattle.socks_machine.specs.Phase.{Phase, phase}
+use Rattle.socks_machine.specs.Replies.{refusal}
+use Rattle.socks_machine.specs.Served.{is_served_input, is_whole_input}
+use Rattle.socks_machine.specs.Settle.{is_nothing, fix, first_cause}
+use Rattle.socks_machine.specs.Socks.{chosen_reply}
+use Rattle.socks_machine.specs.Taking.{reads_client, reads_target}
+use Rattle.socks_machine.specs.Turn.{turn, marked, reads_in, has_pending, may_be_shut, may_write, fault_fits, with_fault}
+use Rattle.socks_machine.proofs.CallLaws.{grants, answers-call}
+use Rattle.assoc_core.specs.declared.assoc.Assoc.{Assoc}
+use Rattle.assoc_core.specs.declared.assoc.Next.{Next}
+use Rattle.assoc_core.specs.declared.hear.Heard.{Heard}
+use Rattle.assoc_core.specs.declared.send.Sent.{Sent}
+use Rattle.assoc_core.specs.Granting.{AsksGrant, connect_facts, request_line, verdict_on, judged}
+use Rattle.assoc_core.specs.Hearing.{HasHeard}
+use Rattle.assoc_core.specs.Plain.{IsPlainRecord, owed_c, refusal_owed, no_login}
+use Rattle.assoc_core.specs.Preludes.{IsConnect}
+use Rattle.assoc_core.specs.Sending.{Sends, SendEnds}
+use Rattle.assoc_core.specs.Stands.{GivesFirst}
+use Rattle.assoc_core.specs.Turns.{Turns, StopsReading, links, context, IsFull}
+use Rattle.assoc_core.proofs.Answering.{all-owed, still-left, told-sent, with_link}
+use Rattle.assoc_core.proofs.HeardTurns.{hearing_of, behind-is, stands-before, turns-before, first-sent}
+use Rattle.assoc_core.proofs.LinksHeld.{short}
+use Rattle.assoc_core.proofs.PlainRecords.{and-false, plain-owes-client, request_to}
+use Rattle.assoc_core.proofs.Sendings.{rose-before}
+use Rattle.assoc_core.proofs.TalkCloses.{sends}
+use Rattle.assoc_core.proofs.Talking.{Hearing, Party, talker, basis_of, context_of, before, heard, heard_takings, answered, let_in, has-answered, takes-open, settled-whole, heard-nothing, phase-whole}
+use Rattle.assoc_core.proofs.TalkTurns.{Talked, turns-talked, talk_acts, talk_event, heard_told, with_state}
+
+-- ---- as the code asks
+
+last-set : (ds now after : List Decision) (x y : Decision) → now ≡ ds ++ x ∷ [] → after ≡ slice_set now (length now - 1) y → after ≡ ds ++ y ∷ []
+last-set ds now after x y now' after' =
+    let n : length now - 1 ≡ length ds = omega (arith, ap (λ (z : List Decision). length z) now', length-append ds (x ∷ [])) in
+    after' ∙ ((λ i. slice_set (now' i) (n i) y) ∙ set-append_seam ds x [] y)
+
+pub asks : (stands : List Line → List StopBy → Type 0) (h : List Line) (marks : List StopBy) (generation : ℕ) (config : Config) (to : Endpoint) (old : Record) (line : GrantLine) (facts : Facts) (said : Said)
+    (refused why cause : Option Cause) (pushed after : List Decision) (placeholder : Decision)
+    → line ≡ request_line generation config old to → facts ≡ connect_facts old to → Grants stands h marks line said
+    → why ≡ blocked generation line.verdict → refused ≡ refusal_full generation said why → pushed ≡ old.decisions ++ placeholder ∷ []
+    → after ≡ slice_set pushed (length pushed - 1) (Decision.Granted generation facts line.verdict None refused) → cause ≡ first_cause refused old.cause
+    → AsksGrant stands h marks generation config to old (record old { decisions = after; cause = cause })
+asks stands h marks generation config to old line facts said refused why cause pushed after placeholder line' facts' desk why' refused' pushed' after' cause' = record {
+  said = said;
+  desk = subst (λ (l : GrantLine). Grants stands h marks l said) line' desk;
+  state' =
+      (λ i. record old { decisions = last-set old.decisions pushed after placeholder (Decision.Granted generation facts line.verdict None refused) pushed' after' i; cause = cause' i })
+      ∙ (λ i. record old { decisions = old.decisions ++ Decision.Granted generation (facts' i) (line' i).verdict None (is i) ∷ []; cause = first_cause (is i) old.cause });
+}
+  where
+    is : refused ≡ refusal_full generation said (blocked generation (verdict_on config old to))
+    is = refused' ∙ (ap (refusal_full generation said) why' ∙ ap (λ (l : GrantLine). refusal_full generation said (blocked generation l.verdict)) line')
+
+-- ---- the record behind it
+
+abbrev pub granted_ds : Hearing → Endpoint → Option Cause → List Decision
+granted_ds t to refused = let_in t ++ Decision.Granted t.generation (connect_facts (heard t) to) (verdict_on t.config (heard t) to) None refused ∷ []
+
+abbrev pub asked : Hearing → Endpoint → Option Cause → List ℕ → Option Cause → Record
+asked t to refused sent cause = talker t.party (t.c ++ t.x) sent false (answered t) (granted_ds t to refused) cause
+
+-- what stands where a write failed behind it
+abbrev pub fault_of : Bool → Option Object
+fault_of true = Some Object.Client
+fault_of false = None
+
+abbrev pub with_failure : Bool → Option Cause → Option Cause
+with_failure true cause = first_cause (Some Cause.ClientFault) cause
+with_failure false cause = cause
+
+still-stands : (failed : Bool) (refused : Option Cause) → is_some refused ≡ true → is_some (with_failure failed (first_cause refused None)) ≡ true
+still-stands true (Some cause) h = refl
+still-stands false (Some cause) h = refl
+still-stands failed None h = absurd (cc)
+
+connect-whole : (c : List ℕ) (to : Endpoint) → IsConnect c to → is_whole_input c ≡ true
+connect-whole c to h = ap is_whole_input h.bytes' ∙ long h.reserved h.a h.b h.c h.d h.p h.q h.payload
+  where
+    long : (r a b c d p q : ℕ) (bs : List ℕ) → is_whole_input (5 ∷ 1 ∷ 0 ∷ 5 ∷ 1 ∷ r ∷ 1 ∷ a ∷ b ∷ c ∷ d ∷ p ∷ q ∷ bs) ≡ true
+    long r a b c d p q bs = grind arith
+
+pub plain-asked : (t : Hearing) (to : Endpoint) (refused : Option Cause) (sent : List ℕ) (cause : Option Cause) → IsConnect (t.c ++ t.x) to → (is_some refused ≡ true → is_some cause ≡ true)
+    → IsPrefix sent (chosen_reply (answered t) ++ refusal_owed (t.c ++ t.x) None cause) → IsPlainRecord (asked t to refused sent cause)
+plain-asked t to refused sent cause connects stands sent' = record {
+  undone = refl;
+  unclosed = refl;
+  grams = refl;
+  sent_u = refl;
+  served = t.served;
+  chosen' = has-answered t;
+  decided = record {
+    untargeted = record { t = refl; sent_t = refl; end_t = refl; shut_c = refl; shut_t = refl };
+    whole = connect-whole (t.c ++ t.x) to connects;
+    version = ap version_of connects.bytes';
+    command = refl;
+    unended = refl;
+    stands = stands;
+  };
+  sent_c = sent';
+  sent_t = ([], refl);
+}
+
+owes-asked : (t : Hearing) (to : Endpoint) (refused cause : Option Cause) → IsConnect (t.c ++ t.x) to → (is_some refused ≡ true → is_some cause ≡ true)
+    → owed_to_client (basis_of t) (asked t to refused t.sent cause) ≡ chosen_reply (answered t) ++ refusal_owed (t.c ++ t.x) None cause
+owes-asked t to refused cause connects stands =
+    plain-owes-client t.users t.pubs (asked t to refused t.sent cause) (plain-asked t to refused t.sent cause connects stands (first-sent t (refusal_owed (t.c ++ t.x) None cause)))
+
+silent : (v : Option Version) → refusal v no_login Cause.ClientFault ≡ []
+silent None = refl
+silent (Some v) = refl
+
+-- a fault behind the grant owes nothing more
+fault-owes : (c : List ℕ) (failed : Bool) (refused : Option Cause) → refusal_owed c None (with_failure failed (first_cause refused None)) ≡ refusal_owed c None (first_cause refused None)
+fault-owes c false refused = refl
+fault-owes c true None = silent (version_of c)
+fault-owes c true (Some cause) = refl
+
+-- ---- the call
+
+abbrev pub granted_by : Hearing → Endpoint → Bool → Option Cause → TurnResult
+granted_by t to logged refused = record {
+  left = asked t to refused t.sent (first_cause refused None);
+  h = (at_grant t.h t.marks (request_line t.generation t.config (heard t) to) logged).h;
+  marks = (at_grant t.h t.marks (request_line t.generation t.config (heard t) to) logged).marks;
+}
+
+grant-made : (t : Hearing) (to : Endpoint) (logged : Bool) (refused : Option Cause)
+    → refusal_full t.generation (at_grant t.h t.marks (request_line t.generation t.config (heard t) to) logged).said (blocked t.generation (verdict_on t.config (heard t) to)) ≡ refused
+    → call_grant (context_of t) (heard t) (request_to to) logged ≡ granted_by t to logged refused
+grant-made t to logged refused e = λ i. record {
+  left = decided (Decision.Granted t.generation (connect_facts (heard t) to) (verdict_on t.config (heard t) to) (unrouted i) (e i)) (e i) (heard t);
+  h = (at_grant t.h t.marks (request_line t.generation t.config (heard t) to) logged).h;
+  marks = (at_grant t.h t.marks (request_line t.generation t.config (heard t) to) logged).marks;
+}
+  where
+    unrouted : route_of t.config (connect_facts (heard t) to) ≡ None
+    unrouted = ap (λ rs. first (route_matches (connect_facts (heard t) to)) rs) t.routes'
+
+-- ---- the turn
+
+abbrev pub grant_event : Hearing → Bool → ℕ → Bool → Bool → ℕ → NextMark → TurnEvent
+grant_event t logged n full failed worker next = talk_event t worker (t.party).since (talk_acts t.x false (Some logged) n false full (fault_of failed) failed) next
+
+-- what a turn that grants has sent
+pub record GrantSends (t : Hearing) (to : Endpoint) (refused : Option Cause) (y rest sent : List ℕ) (failed : Bool) : Type 0 where
+  pub connects : IsConnect (t.c ++ t.x) to
+  pub sent' : sent ≡ t.sent ++ y
+  pub all : (t.sent ++ y) ++ rest ≡ chosen_reply (answered t) ++ refusal_owed (t.c ++ t.x) None (first_cause refused None)
+  pub left' : failed ≡ true → 0 < length rest
+
+faults-as : (t : Hearing) (to : Endpoint) (logged failed : Bool) (refused : Option Cause)
+    → with_fault (fault_of failed) failed (granted_by t to logged refused).left ≡ Some (asked t to refused t.sent (with_failure failed (first_cause refused None)))
+faults-as t to logged true refused = refl
+faults-as t to logged false refused = refl
+
+still-owes : (t : Hearing) (to : Endpoint) (refused : Option Cause) (y rest sent : List ℕ) (failed : Bool) → GrantSends t to refused y rest sent failed
+    → owed_to_client (basis_of t) (asked t to refused t.sent (with_failure failed (first_cause refused None))) ≡ chosen_reply (answered t) ++ refusal_owed (t.c ++ t.x) None (first_cause refused None)
+still-owes t to refused y rest sent failed k =
+    owes-asked t to refused (with_failure failed (first_cause refused None)) k.connects (still-stands failed refused)
+    ∙ ap (λ z. chosen_reply (answered t) ++ z) (fault-owes (t.c ++ t.x) failed refused)
+
+pending-middle : (a b c : Bool) → b ≡ true → a || b || c ≡ true
+pending-middle true b c h = refl
+pending-middle false true c h = refl
+pending-middle false false c h = absurd (cc)
+
+fits-as : (t : Hearing) (to : Endpoint) (logged failed : Bool) (refused : Option Cause) (y rest sent : List ℕ) → GrantSends t to refused y rest sent failed
+    → fault_fits (basis_of t) (fault_of failed) failed (granted_by t to logged refused).left ≡ true
+fits-as t to logged false refused y rest sent k = refl
+fits-as t to logged true refused y rest sent k =
+    ap (λ b. b && may_write (basis_of t) (asked t to refused t.sent (with_failure true (first_cause refused None))))
+    (pending-middle (reads_in m (phase (basis_of t) m) Object.Client) (has_pending (basis_of t) m Object.Client) (may_be_shut (basis_of t) m Object.Client)
+    (ap (λ z. not (is_nothing (drop (length t.sent) z))) (owes-asked t to refused (first_cause refused None) k.connects (still-stands false refused)) ∙ ap not left-over))
+    ∙ ap (λ b. b || has_pending (basis_of t) (asked t to refused t.sent (with_failure true (first_cause refused None))) Object.Target)
+    (ap (λ z. not (is_nothing (drop (length t.sent) z))) (still-owes t to refused y rest sent true k) ∙ ap not left-over)
+  where
+    m : Record
+    m = (granted_by t to logged refused).left
+
+    left-over : is_nothing (drop (length t.sent) (chosen_reply (answered t) ++ refusal_owed (t.c ++ t.x) None (first_cause refused None))) ≡ false
+    left-over = still-left t.sent y rest (chosen_reply (answered t) ++ refusal_owed (t.c ++ t.x) None (first_cause refused None)) k.all (k.left' refl)
+
+called-as : (t : Hearing) (to : Endpoint) (logged : Bool) (refused : Option Cause) → IsConnect (t.c ++ t.x) to
+    → refusal_full t.generation (at_grant t.h t.marks (request_line t.generation t.config (heard t) to) logged).said (blocked t.generation (verdict_on t.config (heard t) to)) ≡ refused
+    → Called (context_of t) (Outer.Desk logged) None (heard t) (granted_by t to logged refused)
+called-as t to logged refused connects e =
+    subst (λ (m : TurnResult). Called (context_of t) (Outer.Desk logged) None (heard t) m) (grant-made t to logged refused e)
+    (grants (context_of t) (heard t) None (request_to to) logged (phase-whole t to connects))
+
+takes-whole : (t : Hearing) (to : Endpoint) (full : Bool) → IsConnect (t.c ++ t.x) to
+    → Takes (basis_of t) t.generation (t.config).methods (heard_takings t false [] (links full false)) (before t) (heard t)
+takes-whole t to full connects = takes-open t [] (links full false) (heard t) (settled-whole t to connects) (heard-nothing t)
+
+grants-on : (t : Hearing) (to : Endpoint) (logged full failed : Bool) (refused : Option Cause) (y rest sent : List ℕ) (worker : ℕ) → GrantSends t to refused y rest sent failed
+    → refusal_full t.generation (at_grant t.h t.marks (request_line t.generation t.config (heard t) to) logged).said (blocked t.generation (verdict_on t.config (heard t) to)) ≡ refused
+    → turn (context_of t) (grant_event t logged (length y) full failed worker NextMark.Again) (before t)
+    ≡ Some (marked NextMark.Again (record {
+      left = asked t to refused sent (with_failure failed (first_cause refused None));
+      h = (granted_by t to logged refused).h;
+      marks = (granted_by t to logged refused).marks;
+    }))
+grants-on t to logged full failed refused y rest sent worker k e =
+    answers-call (context_of t) (before t) (grant_event t logged (length y) full failed worker NextMark.Going) (heard t) (granted_by t to logged refused) d (record d { sent_c = sent }) NextMark.Again
+    (record {
+      going = record { undone = refl; unstopped = refl; going = refl };
+      takes = takes-whole t to full k.connects;
+      calls = inr (called-as t to logged refused k.connects e);
+      faults = faults-as t to logged failed refused;
+      sendings = record {
+        c = sends t.sent y sent rest (owed_to_client (basis_of t) d) k.sent' (ap (λ z. z ++ rest) k.sent' ∙ (k.all ∙ sym (still-owes t to refused y rest sent failed k)));
+        t = record { bytes = []; now' = refl; count = refl; rest = owed_to_target (basis_of t) d; owed' = refl };
+        u = record { bytes = []; now' = refl; count = refl; rest = owed_datagrams (basis_of t) d; owed' = refl };
+      };
+      shuts = refl;
+    })
+    (called-as t to logged refused k.connects e) (fits-as t to logged failed refused y rest sent k)
+    (ap (λ b. if b then Some NextMark.Done else Some NextMark.Again) (and-false (is_some d.cause)))
+  where
+    d : Record
+    d = asked t to refused t.sent (with_failure failed (first_cause refused None))
+
+-- why the write stopped
+pub record GrantEnds (told : Told) (counts counts' : Counts) (rest : List ℕ) (full failed : Bool) : Type 0 where
+  pub full' : full ≡ true → (0 < length rest) × IsFull told × Rose counts.idle_writes counts'.idle_writes
+  pub failed' : failed ≡ true → (0 < length rest) × (told.unfailing ≡ false) × Rose counts.faults counts'.faults
+
+no-fault : (failed : Bool) → (failed ≡ true → ⊥) → (fault_of failed ≡ None) × (failed ≡ false)
+no-fault true h = absurd (h refl)
+no-fault false h = (refl, refl)
+
+has-failed : (failed : Bool) → fault_of failed ≡ Some Object.Client → failed ≡ true
+has-failed true h = refl
+has-failed false h = cc
+
+pub grants-turn : {L : Type 0} (told : L → Told) (counts : L → Counts) (stands : List Line → List StopBy → Type 0) (users : List User) (pubs : List Config) (generation : ℕ) (config : Config) (most : ℕ) (h : List Line) (marks : List StopBy)
+    (now : ℕ) (net : NetTold) (a b : Assoc L) (client : L) (to : Endpoint) (g s : Record) (cause : Option Cause) (full failed : Bool) (outcome : Sent)
+    → HasHeard told counts generation config a b Heard.Decided → IsConnect (b.state).c to → (a.state).since ≡ now
+    → AsksGrant stands h marks generation config to b.state g
+    → s ≡ record g { sent_c = s.sent_c }
+    → Sends (told b.client) (told client) (counts b.client) (counts client) g.sent_c s.sent_c (drop (length g.sent_c) (owed_c g)) outcome
+    → ((rest : List ℕ) → SendEnds (told client) (counts b.client) (counts client) rest outcome → GrantEnds (told client) (counts b.client) (counts client) rest full failed)
+    → cause ≡ with_failure failed s.cause
+    → Turns told counts stands (context users pubs generation config most h marks) now net net a (Next.Again (with_link b (record s { cause = cause }) client))
+grants-turn told counts stands users pubs generation config most h marks now net a b client to g s cause full failed outcome k connects since grant state' sends by cause' =
+    turns-before told counts stands users pubs generation config most h marks now net a b Heard.Decided (Next.Again (with_link b (record s { cause = cause }) client)) k since
+    (turns-talked told counts stands t (t.party).since net a (Next.Again (with_link b (record s { cause = cause }) client)) sends'.bytes false (Some desk.logged) false full (fault_of failed) failed
+    (stands-before told counts users pubs generation config most h marks a b Heard.Decided k) (record {
+      result = marked NextMark.Again (record {
+        left = asked t to refused s.sent_c (with_failure failed (first_cause refused None));
+        h = (granted_by t to desk.logged refused).h;
+        marks = (granted_by t to desk.logged refused).marks;
+      });
+      lawful = λ worker. grants-on t to desk.logged full failed refused sends'.bytes sends'.rest s.sent_c worker sendings said';
+      state' = is;
+      desk' = desk.stands';
+      goes_on = subst IsPlainRecord (sym is) (plain-asked t to refused s.sent_c (with_failure failed (first_cause refused None)) connects' (still-stands failed refused)
+          (sends'.rest, owed-now ∙ ap (λ z. chosen_reply (answered t) ++ z) (sym (fault-owes (t.c ++ t.x) failed refused))));
+      c' = refl;
+      sent' = sends'.after';
+      end_c' = refl;
+      shut_c' = refl;
+      side = record { at = refl; t = refl; sent_t = refl; end_t = refl; shut_t = refl };
+      since' = refl;
+      number' = refl;
+      told' = told-sent (told a.client) (told b.client) (told client) t.x sends'.bytes false (k.hears).told' sends'.told';
+      target' = k.target';
+      at_end = λ e1. absurd (cc);
+      first = subst GivesFirst (sym sends'.told') ((k.hears).first (k.stands).client_first);
+      behind = heard t;
+      takes = takes-whole t to full connects';
+      open' = heard t;
+      takes_open = takes-whole t to full connects';
+      unread_t = ap (reads_target (heard t)) (phase-whole t to connects');
+      stops_c = StopsReading.unread (ap (reads_client (basis_of t) [] (links full false) (heard t)) (phase-whole t to connects'));
+      talks = λ e1. absurd (cc);
+      short = λ e1. absurd (cc);
+      idle_c = λ e1. absurd (cc);
+      full_c = λ e1. (
+        (ends.full' e1).1,
+        rose-before _ _ _ ((k.hears).later).idle_writes (ends.full' e1).2,
+        short s.sent_c sends'.rest _ (owed-now ∙ ap (λ z. chosen_reply (answered t) ++ z) (sym (fault-owes (t.c ++ t.x) failed refused))) (ends.full' e1).0,
+      );
+      fails_c = λ e1. rose-before _ _ _ ((k.hears).later).faults (ends.failed' (has-failed failed e1)).2;
+      unfailing = λ e1. no-fault failed (λ e2. clash e1 (ends.failed' e2).1);
+    }))
+  where
+    t : Hearing
+    t = hearing_of told counts users pubs generation config most h marks a b Heard.Decided k
+
+    is' : b.state ≡ heard t
+    is' = behind-is told counts users pubs generation config most h marks a b Heard.Decided k
+
+    connects' : IsConnect (t.c ++ t.x) to
+    connects' = subst (λ (c : List ℕ). IsConnect c to) (k.hears).after' connects
+
+    grant' : AsksGrant stands h marks generation config to (heard t) g
+    grant' = subst (λ (r : Record). AsksGrant stands h marks generation config to r g) is' grant
+
+    desk : Grants stands h marks (request_line generation config (heard t) to) grant'.said
+    desk = grant'.desk
+
+    refused : Option Cause
+    refused = refusal_full generation grant'.said (blocked generation (verdict_on config (heard t) to))
+
+    said' : refusal_full t.generation (at_grant t.h t.marks (request_line t.generation t.config (heard t) to) desk.logged).said (blocked t.generation (verdict_on t.config (heard t) to)) ≡ refused
+    said' = ap (λ z. refusal_full generation z (blocked generation (verdict_on config (heard t) to))) (sym desk.said')
+
+    g-is : g ≡ asked t to refused t.sent (first_cause refused None)
+    g-is = grant'.state'
+
+    sends' : Sends (told b.client) (told client) (counts b.client) (counts client) t.sent s.sent_c (drop (length t.sent) (owed_c (asked t to refused t.sent (first_cause refused None)))) outcome
+    sends' = subst (λ (r : Record). Sends (told b.client) (told client) (counts b.client) (counts client) r.sent_c s.sent_c (drop (length r.sent_c) (owed_c r)) outcome) g-is sends
+
+    ends : GrantEnds (told client) (counts b.client) (counts client) sends'.rest full failed
+    ends = by sends'.rest sends'.ends
+
+    s-is : s ≡ asked t to refused s.sent_c (first_cause refused None)
+    s-is = state' ∙ ap (λ (r : Record). let z : Record = record r { sent_c = s.sent_c } in z) g-is
+
+    is : record s { cause = cause } ≡ asked t to refused s.sent_c (with_failure failed (first_cause refused None))
+    is = (λ i. record s { cause = cause' i }) ∙ ap (λ (r : Record). let z : Record = record r { cause = with_failure failed r.cause } in z) s-is
+
+    all : (t.sent ++ sends'.bytes) ++ sends'.rest ≡ chosen_reply (answered t) ++ refusal_owed (t.c ++ t.x) None (first_cause refused None)
+    all = all-owed t.sent sends'.bytes sends'.rest _ (first-sent t (refusal_owed (t.c ++ t.x) None (first_cause refused None))) sends'.pending'
+
+    owed-now : s.sent_c ++ sends'.rest ≡ chosen_reply (answered t) ++ refusal_owed (t.c ++ t.x) None (first_cause refused None)
+    owed-now = ap (λ z. z ++ sends'.rest) sends'.after' ∙ all
+
+    sendings : GrantSends t to refused sends'.bytes sends'.rest s.sent_c failed
+    sendings = record { connects = connects'; sent' = sends'.after'; all = all; left' = λ e1. (ends.failed' e1).0 }
+
+    clash : (told a.client).unfailing ≡ true → (told client).unfailing ≡ false → ⊥
+    clash e1 e2 = let e3 : (told client).unfailing ≡ (told a.client).unfailing = ap (λ (z : Told). z.unfailing) sends'.told' ∙ ap (λ (z : Told). z.unfailing) (k.hears).told' in cc

@@ -1,0 +1,363 @@
+-- What a turn that dials comes to.
+use Rattle.std.proofs.Common.{◌≡◌, ℕ, ◌+◌, ◌<◌, ◌≤◌, Bool, true, false, ◌&&◌, ◌||◌, not, Option, Some, None, List, [], ◌∷◌, ◌++◌, length, drop, refl, sym, ap, subst, ◌∙◌, is_some, length-append, append_assoc, arith}
+use Rattle.std.proofs.lemmas.List.{append-nil}
+use mathlib.Core.List.{IsPrefix}
+use Rattle.addr_pattern.specs.declared.endpoint.Endpoint.{Endpoint}
+use Rattle.conf_model.specs.declared.config.Config.{Config}
+use Rattle.conf_model.specs.declared.user.User.{User}
+use Rattle.net_ends.specs.Counts.{Counts, Rose}
+use Rattle.net_ends.specs.Nets.{DialOutcome, Dial, NetTold, Plan, dialled}
+use Rattle.net_ends.specs.Told.{Told, Arrival, IsFresh, more}
+use Rattle.rule_list.specs.declared.facts.Facts.{Facts}
+use Rattle.rule_list.specs.declared.verdict.Verdict.{Verdict}
+use Rattle.socks_machine.specs.declared.cause.Cause.{Cause}
+use Rattle.socks_machine.specs.declared.cause.StopBy.{StopBy}
+use Rattle.socks_machine.specs.declared.lines.Line.{Line}
+use Rattle.socks_machine.specs.declared.record.Decision.{Decision}
+use Rattle.socks_machine.specs.declared.record.Record.{Record}
+use Rattle.socks_machine.specs.declared.world.Object.{Object}
+use Rattle.socks_machine.specs.Decisions.{Grant, reached, reached_at}
+use Rattle.socks_machine.specs.Owed.{owed_to_client, owed_to_target}
+use Rattle.socks_machine.specs.Phase.{Phase, phase}
+use Rattle.socks_machine.specs.Settle.{is_nothing, first_cause}
+use Rattle.socks_machine.specs.Socks.{chosen_reply}
+use Rattle.socks_machine.specs.Taking.{reads_client, reads_target}
+use Rattle.socks_machine.specs.Turn.{reads_in, has_pending, may_be_shut, may_write, fault_fits, with_fault}
+use Rattle.assoc_core.specs.declared.assoc.Assoc.{Assoc}
+use Rattle.assoc_core.specs.declared.assoc.Next.{Next}
+use Rattle.assoc_core.specs.Plain.{IsPlainRecord, HasDecided, Judged, owed_c, owed_t, success_reply, refusal_owed, plain_to_target, payload_to_client}
+use Rattle.assoc_core.specs.Reaching.{HasDialled, IsNewLink, SameDesk, at_of, cause_of}
+use Rattle.assoc_core.specs.Stands.{Stands, Holds, HoldsTarget, EndsBehind, GivesFirst}
+use Rattle.assoc_core.specs.Turns.{Turns, StopsReading, SameOutside, SameTarget, DialsAre, PlanStays, IsOuterOf, IsUnfailing, IsFull, IsThereAnd, links, context, outer_of}
+use Rattle.assoc_core.proofs.Answering.{still-left}
+use Rattle.assoc_core.proofs.PlainRecords.{plain-owes-client, plain-owes-target}
+use Rattle.assoc_core.proofs.Reaching.{Dialling, dialler, connecting, granted_before, reached_behind, basis_of, context_of, before, behind, grant_of, phase-before, plain-behind, payload-none, reach_acts, with_object, ReachSends, reaches-on}
+use Rattle.assoc_core.proofs.TalkTurns.{with_state}
+
+-- ---- what is owed
+
+abbrev pub due_c : Dialling → DialOutcome → List ℕ
+due_c d o = chosen_reply d.chosen ++ (success_reply d.c (at_of o) ++ ([] ++ refusal_owed d.c (at_of o) (cause_of o)))
+
+fault-adds : (c : List ℕ) (o : DialOutcome) (fault : Option Object) → refusal_owed c (at_of o) (with_object fault (cause_of o)) ≡ refusal_owed c (at_of o) (cause_of o)
+fault-adds c (DialOutcome.CameUp local) fault = refl
+fault-adds c DialOutcome.WasRefused None = refl
+fault-adds c DialOutcome.WasRefused (Some x) = refl
+fault-adds c DialOutcome.NoHost None = refl
+fault-adds c DialOutcome.NoHost (Some x) = refl
+fault-adds c DialOutcome.NoNet None = refl
+fault-adds c DialOutcome.NoNet (Some x) = refl
+fault-adds c DialOutcome.Fault None = refl
+fault-adds c DialOutcome.Fault (Some x) = refl
+
+fails-caused : (o : DialOutcome) (fault : Option Object) → at_of o ≡ None → is_some (with_object fault (cause_of o)) ≡ true
+fails-caused (DialOutcome.CameUp local) fault e = absurd (cc)
+fails-caused DialOutcome.WasRefused None e = refl
+fails-caused DialOutcome.WasRefused (Some x) e = refl
+fails-caused DialOutcome.NoHost None e = refl
+fails-caused DialOutcome.NoHost (Some x) e = refl
+fails-caused DialOutcome.NoNet None e = refl
+fails-caused DialOutcome.NoNet (Some x) e = refl
+fails-caused DialOutcome.Fault None e = refl
+fails-caused DialOutcome.Fault (Some x) e = refl
+
+due-with : (d : Dialling) (o : DialOutcome) (fault : Option Object)
+    → chosen_reply d.chosen ++ (success_reply d.c (at_of o) ++ ([] ++ refusal_owed d.c (at_of o) (with_object fault (cause_of o)))) ≡ due_c d o
+due-with d o fault = ap (λ z. chosen_reply d.chosen ++ (success_reply d.c (at_of o) ++ ([] ++ z))) (fault-adds d.c o fault)
+
+pub first-due : (d : Dialling) (z : List ℕ) → IsPrefix d.sent (chosen_reply d.chosen ++ z)
+first-due d z = ((d.sent').0 ++ z, sym (append_assoc d.sent (d.sent').0 z) ∙ ap (λ s. s ++ z) ((d.sent').1 ∙ append-nil (chosen_reply d.chosen)))
+
+plain-with : (d : Dialling) (o : DialOutcome) (fault : Option Object) → IsPlainRecord (behind d (at_of o) d.sent [] (with_object fault (cause_of o)))
+plain-with d o fault = plain-behind d (at_of o) d.sent [] (with_object fault (cause_of o)) (λ e. refl) (fails-caused o fault)
+    (first-due d _) (plain_to_target d.c (at_of o), refl) (payload-none (at_of o))
+
+owes-c : (d : Dialling) (o : DialOutcome) (fault : Option Object) → owed_to_client (basis_of d) (behind d (at_of o) d.sent [] (with_object fault (cause_of o))) ≡ due_c d o
+owes-c d o fault = plain-owes-client d.users d.pubs (behind d (at_of o) d.sent [] (with_object fault (cause_of o))) (plain-with d o fault)
+    ∙ (ap (λ z. chosen_reply d.chosen ++ (success_reply d.c (at_of o) ++ (z ++ refusal_owed d.c (at_of o) (with_object fault (cause_of o))))) (payload-none (at_of o)) ∙ due-with d o fault)
+
+owes-t : (d : Dialling) (o : DialOutcome) (fault : Option Object) → owed_to_target (basis_of d) (behind d (at_of o) d.sent [] (with_object fault (cause_of o))) ≡ plain_to_target d.c (at_of o)
+owes-t d o fault = plain-owes-target d.users d.pubs (behind d (at_of o) d.sent [] (with_object fault (cause_of o))) (plain-with d o fault)
+
+-- ---- the writes
+
+abbrev pub FailedWrite : Dialling → DialOutcome → List ℕ → List ℕ → Option Object → Bool → Type 0
+FailedWrite d o rest_c rest_t None unwritten = unwritten ≡ false
+FailedWrite d o rest_c rest_t (Some Object.Client) unwritten = (unwritten ≡ true) × (0 < length rest_c)
+FailedWrite d o rest_c rest_t (Some Object.Target) unwritten = (unwritten ≡ true) × (0 < length rest_t) × ((local : Endpoint) × (o ≡ DialOutcome.CameUp local))
+FailedWrite d o rest_c rest_t (Some _) unwritten = ⊥
+
+-- what was written, and which write failed
+pub record ReachWrites (d : Dialling) (o : DialOutcome) (y_c rest_c sent_c rest_t sent_t : List ℕ) (fault : Option Object) (unwritten : Bool) : Type 0 where
+  pub sent_c' : sent_c ≡ d.sent ++ y_c
+  pub all_c : (d.sent ++ y_c) ++ rest_c ≡ due_c d o
+  pub all_t : sent_t ++ rest_t ≡ plain_to_target d.c (at_of o)
+  pub failing : FailedWrite d o rest_c rest_t fault unwritten
+
+
+or-middle : (a b c : Bool) → b ≡ true → a || b || c ≡ true
+or-middle true b c h = refl
+or-middle false true c h = refl
+or-middle false false c h = absurd (cc)
+
+or-last : (a b : Bool) → b ≡ true → a || b ≡ true
+or-last true b h = refl
+or-last false b h = h
+
+both-true : (a b : Bool) → a ≡ true → b ≡ true → a && b ≡ true
+both-true true b h k = k
+both-true false b h k = absurd (cc)
+
+pending-c : (d : Dialling) (o : DialOutcome) (fault : Option Object) (y_c rest_c : List ℕ) → (d.sent ++ y_c) ++ rest_c ≡ due_c d o → 0 < length rest_c
+    → has_pending (basis_of d) (behind d (at_of o) d.sent [] (with_object fault (cause_of o))) Object.Client ≡ true
+pending-c d o fault y_c rest_c all some = ap (λ z. not (is_nothing (drop (length d.sent) z))) (owes-c d o fault) ∙ ap not (still-left d.sent y_c rest_c (due_c d o) all some)
+
+pending-t : (d : Dialling) (o : DialOutcome) (fault : Option Object) (sent_t rest_t : List ℕ) → sent_t ++ rest_t ≡ plain_to_target d.c (at_of o) → 0 < length rest_t
+    → has_pending (basis_of d) (behind d (at_of o) d.sent [] (with_object fault (cause_of o))) Object.Target ≡ true
+pending-t d o fault sent_t rest_t all some = ap (λ z. not (is_nothing (drop 0 z))) (owes-t d o fault) ∙ ap not (still-left [] sent_t rest_t (plain_to_target d.c (at_of o)) all some)
+
+faults-as : (d : Dialling) (o : DialOutcome) (rest_c rest_t : List ℕ) (fault : Option Object) (unwritten : Bool) → FailedWrite d o rest_c rest_t fault unwritten
+    → with_fault fault unwritten (behind d (at_of o) d.sent [] (cause_of o)) ≡ Some (behind d (at_of o) d.sent [] (with_object fault (cause_of o)))
+faults-as d o rest_c rest_t None unwritten h = ap (λ u. with_fault None u (behind d (at_of o) d.sent [] (cause_of o))) h
+faults-as d o rest_c rest_t (Some Object.Client) unwritten h = refl
+faults-as d o rest_c rest_t (Some Object.Target) unwritten h =
+    subst (λ (p : DialOutcome). with_fault (Some Object.Target) unwritten (behind d (at_of p) d.sent [] (cause_of p)) ≡ Some (behind d (at_of p) d.sent [] (with_object (Some Object.Target) (cause_of p)))) (sym h.2.1) refl
+faults-as d o rest_c rest_t (Some Object.Door) unwritten h = absurd h
+faults-as d o rest_c rest_t (Some Object.Port) unwritten h = absurd h
+
+fits-as : (d : Dialling) (o : DialOutcome) (y_c rest_c sent_c rest_t sent_t : List ℕ) (fault : Option Object) (unwritten : Bool) → ReachWrites d o y_c rest_c sent_c rest_t sent_t fault unwritten
+    → FailedWrite d o rest_c rest_t fault unwritten → fault_fits (basis_of d) fault unwritten (behind d (at_of o) d.sent [] (cause_of o)) ≡ true
+fits-as d o y_c rest_c sent_c rest_t sent_t None unwritten k h = refl
+fits-as d o y_c rest_c sent_c rest_t sent_t (Some Object.Client) unwritten k h =
+    both-true _ _ (or-middle _ _ _ (pending-c d o None y_c rest_c k.all_c h.1))
+    (or-last (not unwritten) _ (ap (λ b. b || has_pending (basis_of d) (behind d (at_of o) d.sent [] (with_object (Some Object.Client) (cause_of o))) Object.Target) (pending-c d o (Some Object.Client) y_c rest_c k.all_c h.1)))
+fits-as d o y_c rest_c sent_c rest_t sent_t (Some Object.Target) unwritten k h =
+    both-true _ _ (or-middle _ _ _ (pending-t d o None sent_t rest_t k.all_t h.1))
+    (or-last (not unwritten) _ (or-last _ _ (pending-t d o (Some Object.Target) sent_t rest_t k.all_t h.1)))
+fits-as d o y_c rest_c sent_c rest_t sent_t (Some Object.Door) unwritten k h = absurd h
+fits-as d o y_c rest_c sent_c rest_t sent_t (Some Object.Port) unwritten k h = absurd h
+
+pub sends-as : (d : Dialling) (o : DialOutcome) (y_c rest_c sent_c rest_t sent_t : List ℕ) (fault : Option Object) (unwritten : Bool) → ReachWrites d o y_c rest_c sent_c rest_t sent_t fault unwritten
+    → ReachSends d o y_c rest_c sent_c sent_t rest_t sent_t fault unwritten
+sends-as d o y_c rest_c sent_c rest_t sent_t fault unwritten k = record {
+  sent_c' = k.sent_c';
+  owed_c' = ap (λ z. z ++ rest_c) k.sent_c' ∙ (k.all_c ∙ sym (owes-c d o fault));
+  sent_t' = refl;
+  owed_t' = k.all_t ∙ sym (owes-t d o fault);
+  faults = faults-as d o rest_c rest_t fault unwritten k.failing;
+  fits = fits-as d o y_c rest_c sent_c rest_t sent_t fault unwritten k k.failing;
+}
+
+-- ---- from what was dialled
+
+pub judged-of : (r : Record) (ds : List Decision) (g : ℕ) (rule : Option ℕ) (g' : ℕ) (facts : Facts) (verdict : Verdict)
+    → ds ≡ Decision.Opened g rule None ∷ Decision.Granted g' facts verdict None None ∷ [] → HasDecided r ds → Judged r facts None
+judged-of r ds g rule g' facts verdict is h = subst (HasDecided r) is h
+
+pub judged-in : {L : Type 0} (told : L → Told) (net net' : NetTold) (now : ℕ) (a b : Assoc L) (o : DialOutcome) (k : HasDialled told net net' now a b o) → Judged a.state k.facts None
+judged-in told net net' now a b o k = judged-of a.state (a.state).decisions k.g k.rule k.g' k.facts k.verdict k.granted' ((k.stands).plain).decided
+
+abbrev pub dialling_of : {L : Type 0} (told : L → Told) (users : List User) (pubs : List Config) (generation : ℕ) (config : Config) (most : ℕ) (h : List Line) (marks : List StopBy)
+    (net net' : NetTold) (now : ℕ) (a b : Assoc L) (o : DialOutcome) → HasDialled told net net' now a b o → Dialling
+dialling_of told users pubs generation config most h marks net net' now a b o k = record {
+  users = users;
+  pubs = pubs;
+  generation = generation;
+  config = config;
+  most = most;
+  h = h;
+  marks = marks;
+  party = record { number = (a.state).number; peer = (a.state).peer; local = (a.state).local; since = now };
+  g = k.g;
+  rule = k.rule;
+  g' = k.g';
+  asked = k.facts;
+  verdict = k.verdict;
+  c = (a.state).c;
+  sent = (a.state).sent_c;
+  chosen = (a.state).chosen;
+  served = ((k.stands).plain).served;
+  chosen' = ((k.stands).plain).chosen';
+  whole = (judged-in told net net' now a b o k).whole;
+  version = (judged-in told net net' now a b o k).version;
+  sent' = subst (λ (ds : List Decision). IsPrefix (a.state).sent_c (owed_c (let r = a.state in record r { decisions = ds; cause = None }))) k.granted'
+      (subst (λ (o : Option Cause). IsPrefix (a.state).sent_c (owed_c (let r = a.state in record r { cause = o }))) k.uncaused ((k.stands).plain).sent_c);
+}
+
+pub before-is : {L : Type 0} (told : L → Told) (users : List User) (pubs : List Config) (generation : ℕ) (config : Config) (most : ℕ) (h : List Line) (marks : List StopBy)
+    (net net' : NetTold) (now : ℕ) (a b : Assoc L) (o : DialOutcome) (k : HasDialled told net net' now a b o)
+    → a.state ≡ before (dialling_of told users pubs generation config most h marks net net' now a b o k)
+before-is told users pubs generation config most h marks net net' now a b o k = λ i. record {
+  number = (a.state).number;
+  peer = (a.state).peer;
+  local = (a.state).local;
+  since = k.since i;
+  c = (a.state).c;
+  t = (j.untargeted).t i;
+  sent_c = (a.state).sent_c;
+  sent_t = (j.untargeted).sent_t i;
+  end_c = j.unended i;
+  end_t = (j.untargeted).end_t i;
+  shut_c = (j.untargeted).shut_c i;
+  shut_t = (j.untargeted).shut_t i;
+  chosen = (a.state).chosen;
+  decisions = (k.granted' ∙ (λ n. Decision.Opened k.g k.rule None ∷ Decision.Granted k.g' (let f = k.facts in record f { command = j.command n }) k.verdict None None ∷ [])) i;
+  grams = ((k.stands).plain).grams i;
+  sent_u = ((k.stands).plain).sent_u i;
+  cause = k.uncaused i;
+  at_close = ((k.stands).plain).unclosed i;
+  done = ((k.stands).plain).undone i;
+}
+  where
+    j : Judged a.state k.facts None
+    j = judged-in told net net' now a b o k
+
+pub behind-is : {L : Type 0} (told : L → Told) (users : List User) (pubs : List Config) (generation : ℕ) (config : Config) (most : ℕ) (h : List Line) (marks : List StopBy)
+    (net net' : NetTold) (now : ℕ) (a b : Assoc L) (o : DialOutcome) (k : HasDialled told net net' now a b o)
+    → b.state ≡ behind (dialling_of told users pubs generation config most h marks net net' now a b o k) (at_of o) (a.state).sent_c [] None
+behind-is told users pubs generation config most h marks net net' now a b o k =
+    k.state' ∙ ap (λ (r : Record). let z : Record = record r { since = now; decisions = r.decisions ++ Decision.Reached (k.facts).to (at_of o) ∷ [] } in z)
+    (before-is told users pubs generation config most h marks net net' now a b o k)
+
+-- ---- the dial
+
+dials-as : (o : DialOutcome) (old new : Option (List Dial)) (g : Grant) → new ≡ dialled old (record { to = (g.facts).to; outcome = o }) → DialsAre old new (Phase.Reach g) (outer_of o)
+dials-as (DialOutcome.CameUp local) old new g h = (DialOutcome.CameUp local, refl, h)
+dials-as DialOutcome.WasRefused old new g h = (DialOutcome.WasRefused, refl, h)
+dials-as DialOutcome.NoHost old new g h = (DialOutcome.NoHost, refl, h)
+dials-as DialOutcome.NoNet old new g h = (DialOutcome.NoNet, refl, h)
+dials-as DialOutcome.Fault old new g h = (DialOutcome.Fault, refl, h)
+
+plan-as : (d : Dialling) (o : DialOutcome) (net net' : NetTold) → (at_of o ≡ None → net'.plan ≡ net.plan) → PlanStays net net' (outer_of o) (is_some (reached_at (reached_behind d (at_of o))))
+plan-as d (DialOutcome.CameUp local) net net' h = refl
+plan-as d DialOutcome.WasRefused net net' h = h refl
+plan-as d DialOutcome.NoHost net net' h = h refl
+plan-as d DialOutcome.NoNet net net' h = h refl
+plan-as d DialOutcome.Fault net net' h = h refl
+
+outer-as : (d : Dialling) (o : DialOutcome) (net : NetTold) → ((plan : Plan) → net.plan ≡ Some plan → o ≡ plan.outcome) → IsOuterOf net (Phase.Reach (grant_of d)) (outer_of o)
+outer-as d (DialOutcome.CameUp local) net h = (refl, λ plan e. ap outer_of (h plan e))
+outer-as d DialOutcome.WasRefused net h = (refl, λ plan e. ap outer_of (h plan e))
+outer-as d DialOutcome.NoHost net h = (refl, λ plan e. ap outer_of (h plan e))
+outer-as d DialOutcome.NoNet net h = (refl, λ plan e. ap outer_of (h plan e))
+outer-as d DialOutcome.Fault net h = (refl, λ plan e. ap outer_of (h plan e))
+
+-- ---- its links
+
+more-is : (o : Option (List ℕ)) (held part x : List ℕ) → ((y : List ℕ) → o ≡ Some y → y ≡ held) → more o part ≡ Some x → x ≡ held ++ part
+more-is None held part x h e = absurd (cc)
+more-is (Some y) held part x h e = sym (some-is e) ∙ ap (λ z. z ++ part) (h y refl)
+  where
+    some-is : Some (y ++ part) ≡ Some x → y ++ part ≡ x
+    some-is k = cc
+
+abbrev pub told_taken : Told → List ℕ → Told
+told_taken told y = record told { taken = more told.taken y }
+
+holds-taken : (told : Told) (c sent y : List ℕ) (ended shut : Bool) → Holds told c sent ended shut → Holds (told_taken told y) c (sent ++ y) ended shut
+holds-taken told c sent y ended shut h = record {
+  given' = h.given';
+  taken' = λ z e. more-is told.taken sent y z h.taken' e;
+  ended' = h.ended';
+  shut' = h.shut';
+}
+
+-- a link that is new, and has taken y
+pub holds-new : (told : Told) (y : List ℕ) → IsFresh told → Holds (told_taken told y) [] y false false × EndsBehind (told_taken told y) × GivesFirst (told_taken told y)
+holds-new told y f = (
+  record { given' = f.given; taken' = λ z e. more-is told.taken [] y z f.taken e; ended' = f.unended; shut' = f.unshut },
+  λ arrival given e1 e2 ended. absurd (never (sym ended ∙ f.unended)),
+  λ arrival given e1 e2. (arrival.bytes, ap (λ z. z ++ arrival.bytes) (f.given given e2)),
+)
+  where
+    never : true ≡ false → ⊥
+    never e = cc
+
+-- no target is there before
+pub target-none : {L : Type 0} (told : L → Told) (r : Record) (target : Option L) → reached_at r.decisions ≡ None → HoldsTarget told r target → target ≡ None
+target-none told r None none h = refl
+target-none told r (Some link) none h = absurd (clash (sym none ∙ h.0.1))
+  where
+    clash : None ≡ Some h.0.0 → ⊥
+    clash e = cc
+
+-- ---- the turn
+
+-- all that a turn that dials comes to
+pub record Reaches {L : Type 0} (told : L → Told) (counts : L → Counts) (d : Dialling) (net net' : NetTold) (a z : Assoc L) (o : DialOutcome)
+    (y_c rest_c rest_t : List ℕ) (full_c full_t : Bool) (fault : Option Object) (unwritten : Bool) : Type 0 where
+  pub state' : z.state ≡ behind d (at_of o) (d.sent ++ y_c) (z.state).sent_t (with_object fault (cause_of o))
+  pub writes : ReachWrites d o y_c rest_c (d.sent ++ y_c) rest_t (z.state).sent_t fault unwritten
+  pub unsent_t : at_of o ≡ None → (z.state).sent_t ≡ []
+  pub dials : net'.dials ≡ dialled net.dials (record { to = (d.asked).to; outcome = o })
+  pub planned : (plan : Plan) → net.plan ≡ Some plan → o ≡ plan.outcome
+  pub kept : at_of o ≡ None → net'.plan ≡ net.plan
+  pub told' : told z.client ≡ told_taken (told a.client) y_c
+  pub target' : HoldsTarget told z.state z.target
+  pub same_target : SameTarget told net a.target z.target
+  pub fills_c : full_c ≡ true → (0 < length rest_c) × IsFull (told z.client) × Rose (counts a.client).idle_writes (counts z.client).idle_writes
+  pub fills_t : full_t ≡ true → (0 < length rest_t) × IsThereAnd z.target (λ link. IsFull (told link))
+  pub fails_c : fault ≡ Some Object.Client → Rose (counts a.client).faults (counts z.client).faults
+  pub unfailing : (told a.client).unfailing ≡ true → IsUnfailing told net a.target → (fault ≡ None) × (unwritten ≡ false)
+
+pub short-of : (sent rest owed : List ℕ) → sent ++ rest ≡ owed → 0 < length rest → length sent < length owed
+short-of sent rest owed e h = omega (arith, length-append sent rest, ap (λ (z : List ℕ). length z) e)
+
+pub turns-reached : {L : Type 0} (told : L → Told) (counts : L → Counts) (d : Dialling) (net net' : NetTold) (a z : Assoc L) (o : DialOutcome)
+    (y_c rest_c rest_t : List ℕ) (full_c full_t : Bool) (fault : Option Object) (unwritten : Bool)
+    → Stands told (with_state a (before d)) → Reaches told counts d net net' a z o y_c rest_c rest_t full_c full_t fault unwritten
+    → Turns told counts (SameDesk d.h d.marks) (context_of d) (d.party).since net net' (with_state a (before d)) (Next.Again z)
+turns-reached told counts d net net' a z o y_c rest_c rest_t full_c full_t fault unwritten k h = record {
+  acts = reach_acts o (length y_c) (length (z.state).sent_t) full_c full_t fault unwritten;
+  result = record { left = x; h = d.h; marks = d.marks };
+  lawful = λ worker. reaches-on d o y_c rest_c (d.sent ++ y_c) (z.state).sent_t rest_t (z.state).sent_t full_c full_t fault unwritten worker
+      (sends-as d o y_c rest_c (d.sent ++ y_c) rest_t (z.state).sent_t fault unwritten h.writes);
+  state' = h.state';
+  desk = (refl, refl);
+  goes_on = subst IsPlainRecord (sym h.state') plain;
+  c = sym (append-nil d.c);
+  t = refl;
+  ends_c = λ e. absurd (cc);
+  ends_t = λ e. absurd (cc);
+  sent_c = length-append d.sent y_c;
+  sent_t = zero-more (length (z.state).sent_t);
+  since = refl;
+  number = refl;
+  client = subst (λ (w : Told). Holds w d.c (d.sent ++ y_c) false false) (sym h.told') (holds-taken (told a.client) d.c d.sent y_c false false k.client);
+  client_ends = subst EndsBehind (sym h.told') k.client_ends;
+  client_first = subst GivesFirst (sym h.told') k.client_first;
+  target = subst (λ (r : Record). HoldsTarget told r z.target) h.state' h.target';
+  same_client = subst (λ (w : Told). SameOutside (told a.client) w) (sym h.told') (record { arrived = refl; cap = refl; unfailing = refl });
+  same_target = h.same_target;
+  behind = before d;
+  taken' = λ worker. refl;
+  dials = subst (λ (p : Phase). DialsAre net.dials net'.dials p (outer_of o)) (sym (phase-before d)) (dials-as o net.dials net'.dials (grant_of d) h.dials);
+  plan' = plan-as d o net net' h.kept;
+  outer' = subst (λ (p : Phase). IsOuterOf net p (outer_of o)) (sym (phase-before d)) (outer-as d o net h.planned);
+  stops_c = λ worker. StopsReading.unread (record { behind = before d; taken' = refl; unread' = ap (reads_client (basis_of d) [] (links full_c full_t) (before d)) (phase-before d) });
+  stops_t = λ worker. StopsReading.unread (record { behind = before d; taken' = refl; unread' = ap (reads_target (before d)) (phase-before d) });
+  reads_end_c = λ worker e. absurd (cc);
+  reads_end_t = λ worker e. absurd (cc);
+  idle_c = λ e. absurd (cc);
+  idle_t = λ e. absurd (cc);
+  full_c = λ e. ((h.fills_c e).1, (h.fills_c e).2, short-of (d.sent ++ y_c) rest_c _ owed (h.fills_c e).0);
+  full_t = λ e. ((h.fills_t e).1, short-of (z.state).sent_t rest_t _ (h.writes).all_t (h.fills_t e).0);
+  fails_c = h.fails_c;
+  unfailing = h.unfailing;
+}
+  where
+    x : Record
+    x = behind d (at_of o) (d.sent ++ y_c) (z.state).sent_t (with_object fault (cause_of o))
+
+    zero-more : (n : ℕ) → n ≡ 0 + n
+    zero-more n = omega arith
+
+    all : (d.sent ++ y_c) ++ rest_c ≡ chosen_reply d.chosen ++ (success_reply d.c (at_of o) ++ ([] ++ refusal_owed d.c (at_of o) (with_object fault (cause_of o))))
+    all = (h.writes).all_c ∙ sym (due-with d o fault)
+
+    owed : (d.sent ++ y_c) ++ rest_c ≡ chosen_reply d.chosen ++ (success_reply d.c (at_of o) ++ (payload_to_client [] (at_of o) ++ refusal_owed d.c (at_of o) (with_object fault (cause_of o))))
+    owed = all ∙ ap (λ w. chosen_reply d.chosen ++ (success_reply d.c (at_of o) ++ (w ++ refusal_owed d.c (at_of o) (with_object fault (cause_of o))))) (sym (payload-none (at_of o)))
+
+    plain : IsPlainRecord x
+    plain = plain-behind d (at_of o) (d.sent ++ y_c) (z.state).sent_t (with_object fault (cause_of o)) h.unsent_t (fails-caused o fault)
+        (rest_c, all) (rest_t, (h.writes).all_t) (payload-none (at_of o))

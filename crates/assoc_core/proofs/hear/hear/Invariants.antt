@@ -1,0 +1,15 @@
+use Rattle.std.proofs.Common.{◌-◌, length}
+use Rattle.net_ends.specs.Counts.{Later}
+use Rattle.assoc_core.specs.Reads.{Comes}
+use Rattle.assoc_core.specs.Stands.{GivesFirst}
+use Rattle.assoc_core.proofs.hear.hear.Given as goal
+
+abbrev pub invariant-reading : goal.invariant-reading
+invariant-reading g l = record {
+  comes : Comes (g.L.Link.told l.initial.link) (g.L.Link.told l.link) l.initial.text l.text;
+  first : GivesFirst (g.L.Link.told l.initial.link) → GivesFirst (g.L.Link.told l.link);
+  later : Later (g.L.Link.counts l.initial.link) (g.L.Link.counts l.link);
+}
+
+abbrev pub decreases-reading : goal.decreases-reading
+decreases-reading g l = 13 - length l.text

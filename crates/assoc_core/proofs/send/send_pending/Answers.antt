@@ -1,0 +1,14 @@
+use Rattle.std.proofs.Common.{take, drop}
+use Rattle.std.proofs.lemmas.List.{take-append-drop}
+use Rattle.assoc_core.proofs.send.send_pending.Goals as goal
+
+pub returns : goal.returns
+returns g c = record {
+  bytes = take c.send_all-n.result.0 c.args.pending.now;
+  rest = drop c.send_all-n.result.0 c.args.pending.now;
+  pending' = take-append-drop c.send_all-n.result.0 c.args.pending.now;
+  after' = let i = c.in-Ok.ensures.items in cc (i, c.from_vec-2.ensures, c.reserve.ensures.items, c.replace.ensures.value, c.into_vec-held.ensures);
+  told' = c.send_all-n.ensures.told;
+  later = c.send_all-n.ensures.later;
+  ends = c.send_all-n.ensures.ends;
+}

@@ -1,0 +1,125 @@
+-- One direction of a relay in one turn: its source is read, and its sink is written and shut.
+use Rattle.std.specs.Prelude.{ℕ, ◌≡◌, ◌<◌, ◌≤◌, nat_le, Bool, true, false, ◌||◌, ◌&&◌, not, if◌then◌else◌, Option, Some, None, List, [], ◌++◌, length, drop}
+use Rattle.net_ends.specs.Counts.{Counts, Later, Rose}
+use Rattle.net_ends.specs.Told.{Told, more}
+use Rattle.socks_machine.specs.declared.record.Record.{Record}
+use Rattle.socks_machine.specs.declared.world.Object.{Object}
+use Rattle.socks_machine.specs.Relaying.{MayTake}
+use Rattle.socks_machine.specs.Taking.{some_in}
+use Rattle.socks_machine.specs.Turn.{quantum}
+use Rattle.assoc_core.specs.declared.carry.Take.{Take}
+use Rattle.assoc_core.specs.declared.carry.Give.{Give}
+use Rattle.assoc_core.specs.declared.relay.Pass.{Pass}
+use Rattle.assoc_core.specs.Plain.{prelude, owed_c}
+use Rattle.assoc_core.specs.Stands.{EndsBehind, GivesFirst}
+use Rattle.assoc_core.specs.Turns.{IsIdle, IsFull}
+
+-- why nothing more was read of a source
+abbrev pub TakeEnds : Told → Counts → Counts → List ℕ → Bool → Bool → Take → Type 0
+TakeEnds told old new part reads ended Take.Unread = reads ≡ false
+TakeEnds told old new part reads ended Take.Ended = ended ≡ true
+TakeEnds told old new part reads ended Take.NotYet = (ended ≡ false) × IsIdle told × Rose old.idle_reads new.idle_reads
+TakeEnds told old new part reads ended Take.Quantum = (ended ≡ false) × (quantum ≤ length part)
+TakeEnds told old new part reads ended Take.Failed = (ended ≡ false) × (told.unfailing ≡ false) × Rose old.faults new.faults
+
+abbrev pub is_quantum : Take → Bool
+is_quantum Take.Quantum = true
+is_quantum _ = false
+
+-- what was read of a source, and whether it ended
+pub record TakesPart (old new : Told) (counts counts' : Counts) (before after : List ℕ) (reads was ended : Bool) (take : Take) : Type 0 where
+  pub part : List ℕ
+  pub ends : Bool
+  pub after' : after ≡ before ++ part
+  pub ended' : ended ≡ ends || was
+  pub told' : new ≡ record old { given = more old.given part; ended = ends || old.ended }
+  pub may : MayTake was (some_in part) ends
+  pub below : ends ≡ true → length part < quantum
+  pub whole : nat_le quantum (length part) ≡ is_quantum take
+  pub later : Later counts counts'
+  pub why : TakeEnds new counts counts' part reads ended take
+  pub behind : EndsBehind old → EndsBehind new
+  pub first : GivesFirst old → GivesFirst new
+
+-- why nothing more was sent to a sink of the bytes of which these are left, and where it was shut
+abbrev pub GiveEnds : Told → Counts → Counts → List ℕ → Bool → Bool → Bool → Give → Type 0
+GiveEnds told old new rest gives ends shut Give.Held = gives ≡ false
+GiveEnds told old new rest gives ends shut Give.All = (rest ≡ []) × (ends ≡ true → shut ≡ true)
+GiveEnds told old new rest gives ends shut Give.Full = (0 < length rest) × IsFull told × Rose old.idle_writes new.idle_writes
+GiveEnds told old new rest gives ends shut Give.Unwritten = (0 < length rest) × (told.unfailing ≡ false) × Rose old.faults new.faults
+GiveEnds told old new rest gives ends shut Give.Unshut =
+    (rest ≡ []) × (ends ≡ true) × (shut ≡ false) × (told.unfailing ≡ false) × Rose old.faults new.faults
+
+-- what of the pending bytes was sent to a sink, and whether it was shut
+pub record GivesPart (old new : Told) (counts counts' : Counts) (before after pending : List ℕ) (gives ends was shut : Bool) (give : Give) : Type 0 where
+  pub part : List ℕ
+  pub rest : List ℕ
+  pub shuts : Bool
+  pub pending' : part ++ rest ≡ pending
+  pub after' : after ≡ before ++ part
+  pub shut' : shut ≡ shuts || was
+  pub told' : new ≡ record old { taken = more old.taken part; shut = shuts || old.shut }
+  pub once : shuts ≡ true → was ≡ false
+  pub due : shuts ≡ true → (ends ≡ true) × (rest ≡ [])
+  pub later : Later counts counts'
+  pub why : GiveEnds new counts counts' rest gives ends shut give
+
+-- ---- one pass over both directions
+
+abbrev pub has_ended : Take → Bool
+has_ended Take.Ended = true
+has_ended _ = false
+
+-- the read didn't fail
+abbrev pub is_read : Take → Bool
+is_read Take.Failed = false
+is_read _ = true
+
+-- no call on the sink failed
+abbrev pub is_sound : Give → Bool
+is_sound Give.Unwritten = false
+is_sound Give.Unshut = false
+is_sound _ = true
+
+-- The client is read, then the target is written and shut; the target is read where no call on it failed; the client is
+-- written, and shut where the target has ended. Where the client's read failed nothing more is done.
+pub record Passes (client client' target target' : Told) (counts counts' : Counts) (old new : Record) (pass : Pass) : Type 0 where
+  pub between_c : Told
+  pub between_t : Told
+  pub counts_c : Counts
+  pub counts_t : Counts × Counts × Counts
+  pub takes_c : TakesPart client between_c counts counts_c old.c new.c true old.end_c new.end_c pass.took_c
+  pub gives_t : GivesPart target between_t (counts_t.0) (counts_t.1) old.sent_t new.sent_t (drop (length old.sent_t) (drop prelude new.c)) (is_read pass.took_c) (has_ended pass.took_c) old.shut_t new.shut_t pass.gave_t
+  pub takes_t : TakesPart between_t target' (counts_t.1) (counts_t.2) old.t new.t (is_read pass.took_c && is_sound pass.gave_t) old.end_t new.end_t pass.took_t
+  pub gives_c : GivesPart between_c client' counts_c counts' old.sent_c new.sent_c (drop (length old.sent_c) (owed_c new)) (is_read pass.took_c) (has_ended pass.took_t) old.shut_c new.shut_c pass.gave_c
+  pub held : pass.took_c ≡ Take.Failed → (pass.gave_t ≡ Give.Held) × (pass.took_t ≡ Take.Unread) × (pass.gave_c ≡ Give.Held)
+  pub is : new ≡ record old { c = new.c; t = new.t; end_c = new.end_c; end_t = new.end_t; sent_c = new.sent_c; sent_t = new.sent_t; shut_c = new.shut_c; shut_t = new.shut_t }
+
+abbrev pub is_idle : Take → Bool
+is_idle Take.NotYet = true
+is_idle _ = false
+
+abbrev pub is_full : Give → Bool
+is_full Give.Full = true
+is_full _ = false
+
+abbrev pub is_unwritten : Give → Bool
+is_unwritten Give.Unwritten = true
+is_unwritten _ = false
+
+-- the object whose call failed first
+abbrev pub fault_of : Pass → Option Object
+fault_of pass =
+    if not (is_read pass.took_c) then Some Object.Client
+    else (if not (is_sound pass.gave_t && is_read pass.took_t) then Some Object.Target
+    else (if not (is_sound pass.gave_c) then Some Object.Client else None))
+
+abbrev pub unwritten_of : Pass → Bool
+unwritten_of pass = is_unwritten pass.gave_t || is_unwritten pass.gave_c
+
+abbrev pub took_quantum : Pass → Bool
+took_quantum pass = is_quantum pass.took_c || is_quantum pass.took_t
+
+-- something is pending to a link that took no more
+abbrev pub has_pending : Pass → Bool
+has_pending pass = is_full pass.gave_t || is_full pass.gave_c

@@ -1,0 +1,120 @@
+ghost use Rattle.std.specs.Prelude.{◌≡◌, ◌&&◌, ◌||◌, not, ℕ, List, IfOk, Some};
+ghost use Rattle.conf_model.specs.declared.config.Config.{Config};
+ghost use Rattle.conf_model.specs.declared.user.User.{User};
+ghost use Rattle.conf_model.specs.Plain.{IsPlain};
+ghost use Rattle.net_ends.specs.Nets.{NetTold};
+ghost use Rattle.socks_machine.specs.declared.cause.Cause.{Cause as Causes};
+ghost use Rattle.socks_machine.specs.declared.cause.StopBy.{StopBy};
+ghost use Rattle.socks_machine.specs.declared.lines.Line.{Line};
+ghost use Rattle.socks_machine.specs.Turn.{is_quiet as quiet_by};
+ghost use Rattle.assoc_core.specs.Carrying.{is_full as full_by, is_sound as sound_by};
+ghost use Rattle.assoc_core.specs.Draining.{SendsClient, SendsTarget};
+ghost use Rattle.assoc_core.specs.Stands.{Stands};
+ghost use Rattle.assoc_core.specs.Turns.{Turns, context};
+
+use crate::assoc::{Assoc, Next};
+use crate::carry::{Give, give_to};
+use crate::prelude::PRELUDE;
+use crate::relay::{behind, is_sound};
+use crate::replies::owed_to_client;
+use net_ends::Link;
+use session_desk::DeskCall;
+use socks_machine::{Cause, Record};
+use std::alloc::{AllocError, Global};
+
+/// Sends what is pending to the client.
+fn send_to_client<L: Link>(
+    alloc: Global,
+    state: &mut Record,
+    client: &mut L,
+) -> Result<Give, AllocError>
+    ensures { IfOk result (λ give. SendsClient (L.told client.old) (L.told client.new) (L.counts client.old) (L.counts client.new) state.old state.new give) }
+{
+    let owed = owed_to_client(alloc, state)?;
+    let pending = behind(owed.as_slice(), state.sent_c.len());
+    give_to(
+        alloc,
+        client,
+        &mut state.sent_c,
+        pending,
+        false,
+        &mut state.shut_c,
+    )
+}
+
+/// Sends what is pending to the target, where there is one.
+fn send_to_target<L: Link + Drop>(
+    alloc: Global,
+    state: &mut Record,
+    target: &mut Option<L>,
+) -> Result<Give, AllocError>
+    ensures { IfOk result (λ give. SendsTarget L.told target.old target.new state.old state.new give) }
+{
+    let Some(link) = target else {
+        return Ok(Give::Held);
+    };
+    let pending = behind(behind(state.c.as_slice(), PRELUDE), state.sent_t.len());
+    give_to(
+        alloc,
+        link,
+        &mut state.sent_t,
+        pending,
+        false,
+        &mut state.shut_t,
+    )
+}
+
+fn is_full(give: Give) -> bool
+    ensures { result ≡ full_by give }
+{
+    matches!(give, Give::Full)
+}
+
+/// Whether a cause has no reply, so that nothing is waited for.
+fn is_quiet(cause: Cause) -> bool
+    ensures { result ≡ quiet_by (Some cause) }
+{
+    match cause {
+        Cause::Stopped { .. }
+        | Cause::ClientGone { .. }
+        | Cause::TimedOut { .. }
+        | Cause::ClientFault => true,
+        _ => false,
+    }
+}
+
+impl<L: Link + Drop> Assoc<L> {
+    /// One turn behind a cause: what is pending is sent to the client and then to the target, and it ends where nothing
+    /// is pending, a write failed or the cause has no reply. Behind a failed write nothing more is sent.
+    pub(crate) fn closing<D: DeskCall>(
+        mut self,
+        alloc: Global,
+        desk: &mut D,
+    ) -> Result<Next<L>, AllocError>
+        ensures { IfOk result (λ next. (users : List User) (pubs : List Config) (generation : ℕ) (config : Config) (now : ℕ) (net : NetTold) (h : List Line) (marks : List StopBy) (cause : Causes)
+            → D.stands desk.old h marks → Stands L.told self → IsPlain config → self.state.since ≡ now → self.state.cause ≡ Some cause
+            → Turns L.told L.counts (D.stands desk.new) (context users pubs generation config (D.cap desk.old) h marks) now net net self next) }
+    {
+        let Some(cause) = self.state.cause else {
+            return Err(AllocError);
+        };
+        let gave_c = send_to_client(alloc, &mut self.state, &mut self.client)?;
+        if !is_sound(gave_c) {
+            return Ok(Next::Done(self.finish(desk, cause)));
+        }
+        let gave_t = send_to_target(alloc, &mut self.state, &mut self.target)?;
+        if !is_sound(gave_t) {
+            return Ok(Next::Done(self.finish(desk, cause)));
+        }
+        if is_quiet(cause) {
+            return Ok(Next::Done(self.finish(desk, cause)));
+        }
+        if is_full(gave_c) {
+            return Ok(Next::Wait(self));
+        }
+        if is_full(gave_t) {
+            return Ok(Next::Wait(self));
+        }
+        Ok(Next::Done(self.finish(desk, cause)))
+    }
+}

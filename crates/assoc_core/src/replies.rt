@@ -1,0 +1,182 @@
+ghost use Rattle.std.specs.Prelude.{◌≡◌, ◌∷◌, ◌++◌, ◌≤◌, IfOk, OnOk, length, drop};
+ghost use Rattle.conf_model.specs.Grammar.{spelled_addr, spelled_endpoint};
+ghost use Rattle.conf_model.specs.declared.protocol.Command.{Command};
+ghost use Rattle.conf_model.specs.Handshake.{version_of as first_version};
+ghost use Rattle.socks_machine.specs.Decisions.{reached_at as first_reached};
+ghost use Rattle.socks_machine.specs.Replies.{refusal, failing_reply, answer_to as answer_due};
+ghost use Rattle.socks_machine.specs.Socks.{chosen_reply, success};
+ghost use Rattle.assoc_core.specs.Plain.{owed_c, no_login};
+ghost use Rattle.assoc_core.specs.Answered.{answer_of};
+
+use addr_pattern::{Addr, Endpoint};
+use conf_model::Version;
+use conf_text::Text;
+use socks_machine::{Cause, Chosen, Decision, Record};
+use std::alloc::{AllocError, Global};
+
+/// The bytes from a place on.
+pub fn rest_from(bytes: &[u8], at: usize) -> &[u8]
+    requires { at ≤ length bytes.now }
+    ensures { result.now ≡ drop at bytes.now }
+{
+    &bytes[at..]
+}
+
+/// The version that the first byte says.
+fn version_of(c: &[u8]) -> Option<Version>
+    ensures { result ≡ first_version c.now }
+{
+    match c {
+        [4, ..] => Some(Version::V4),
+        [5, ..] => Some(Version::V5),
+        _ => None,
+    }
+}
+
+/// Where the outside was reached.
+pub fn reached_at(decisions: &[Decision]) -> Option<Endpoint>
+    ensures { result ≡ first_reached decisions.now }
+{
+    match decisions {
+        [] => None,
+        [Decision::Reached { to: _, at }, ..] => *at,
+        [_, rest @ ..] => reached_at(rest),
+    }
+}
+
+/// The answer to the greeting (RFC 1928, section 3).
+fn add_method_reply(owed: &mut Text, chosen: Option<Chosen>) -> Result<(), AllocError>
+    ensures { OnOk result (owed.new ≡ owed.old ++ chosen_reply chosen) }
+{
+    match chosen {
+        Some(chosen) if chosen.method != 255 => owed.add(&[5, chosen.method]),
+        _ => Ok(()),
+    }
+}
+
+/// Bytes with their type before them.
+fn add_typed(owed: &mut Text, kind: u8, bytes: &[u8]) -> Result<(), AllocError>
+    ensures { OnOk result (owed.new ≡ owed.old ++ kind ∷ bytes.now) }
+{
+    owed.add(&[kind])?;
+    owed.add(bytes)
+}
+
+/// Spells an address with its type (RFC 1928, section 5).
+fn add_addr(owed: &mut Text, addr: Addr) -> Result<(), AllocError>
+    ensures { OnOk result (owed.new ≡ owed.old ++ spelled_addr addr) }
+{
+    match addr {
+        Addr::V4(n) => add_typed(owed, 1, &n.to_be_bytes()),
+        Addr::V6(n) => add_typed(owed, 4, &n.to_be_bytes()),
+    }
+}
+
+/// Spells an endpoint (RFC 1928, section 6).
+fn add_endpoint(owed: &mut Text, at: Endpoint) -> Result<(), AllocError>
+    ensures { OnOk result (owed.new ≡ owed.old ++ spelled_endpoint at) }
+{
+    add_addr(owed, at.addr)?;
+    owed.add(&at.port.to_be_bytes())
+}
+
+/// The reply of success to a CONNECT (RFC 1928, section 6).
+fn add_success(owed: &mut Text, c: &[u8], at: Endpoint) -> Result<(), AllocError>
+    ensures { OnOk result (owed.new ≡ owed.old ++ success (first_version c.now) Command.Connect at) }
+{
+    match version_of(c) {
+        None => Ok(()),
+        Some(Version::V4) => owed.add(&[0, 90, 0, 0, 0, 0, 0, 0]),
+        Some(Version::V5) => {
+            owed.add(&[5, 0, 0])?;
+            add_endpoint(owed, at)
+        }
+    }
+}
+
+/// A failing reply of either version.
+fn add_failing_reply(owed: &mut Text, version: Version, code: u8) -> Result<(), AllocError>
+    ensures { OnOk result (owed.new ≡ owed.old ++ failing_reply version code) }
+{
+    match version {
+        Version::V4 => owed.add(&[0, 91, 0, 0, 0, 0, 0, 0]),
+        Version::V5 => owed.add(&[5, code, 0, 1, 0, 0, 0, 0, 0, 0]),
+    }
+}
+
+/// How a cause is answered before the relay: by a code of SOCKS 5 (91 in SOCKS 4), by bytes of its own, or not at all.
+#[derive(Clone, Copy, Debug, PartialEq, Eq)]
+pub enum Reply {
+    Code(u8),
+    Bytes(u8, u8),
+    Silence,
+}
+
+/// The answer to each cause, where no login and no proxy is used (RFC 1928, section 6).
+fn answer_to(cause: Cause) -> Reply
+    ensures { answer_of result ≡ answer_due no_login cause }
+{
+    match cause {
+        Cause::Denied { .. } | Cause::Full { .. } | Cause::WrongPeer { .. } => Reply::Code(2),
+        Cause::NetUnreachable => Reply::Code(3),
+        Cause::HostUnreachable | Cause::NotFound => Reply::Code(4),
+        Cause::Refused => Reply::Code(5),
+        Cause::CommandUnsupported { .. } => Reply::Code(7),
+        Cause::AtypUnsupported { .. } => Reply::Code(8),
+        Cause::BadVersion { .. }
+        | Cause::BadRequest { .. }
+        | Cause::Upstream { .. }
+        | Cause::UpstreamBad { .. }
+        | Cause::NetFault
+        | Cause::DoorFault
+        | Cause::TargetFault
+        | Cause::LogFault
+        | Cause::OutOfTurn(_) => Reply::Code(1),
+        Cause::NoMethod => Reply::Bytes(5, 255),
+        Cause::LoginFailed => Reply::Bytes(1, 1),
+        Cause::Finished
+        | Cause::ClientBlocked { .. }
+        | Cause::Crowded { .. }
+        | Cause::ClientGone { .. }
+        | Cause::ClientFault
+        | Cause::PortFault
+        | Cause::TimedOut { .. }
+        | Cause::Stopped { .. }
+        | Cause::Memory => Reply::Silence,
+    }
+}
+
+/// The refusal that a cause owes.
+fn add_refusal(owed: &mut Text, c: &[u8], cause: Cause) -> Result<(), AllocError>
+    ensures { OnOk result (owed.new ≡ owed.old ++ refusal (first_version c.now) no_login cause) }
+{
+    let Some(version) = version_of(c) else {
+        return Ok(());
+    };
+    match answer_to(cause) {
+        Reply::Code(code) => add_failing_reply(owed, version, code),
+        Reply::Bytes(first, second) => owed.add(&[first, second]),
+        Reply::Silence => Ok(()),
+    }
+}
+
+/// All that is owed to the client from the beginning: the method's reply, the reply of success and the target's bytes, or
+/// a refusal.
+pub fn owed_to_client(alloc: Global, r: &Record) -> Result<Text, AllocError>
+    ensures { IfOk result (λ owed. owed ≡ owed_c r.now) }
+{
+    let mut owed = Text::make(alloc);
+    add_method_reply(&mut owed, r.chosen)?;
+    match reached_at(r.decisions.as_slice()) {
+        Some(at) => {
+            add_success(&mut owed, r.c.as_slice(), at)?;
+            owed.add(r.t.as_slice())?;
+        }
+        None => {
+            if let Some(cause) = r.cause {
+                add_refusal(&mut owed, r.c.as_slice(), cause)?;
+            }
+        }
+    }
+    Ok(owed)
+}
