@@ -1,5 +1,6 @@
 -- How a turn that dials ends: the target is greeted, or the client is refused.
 use Rattle.std.proofs.Common.{◌≡◌, ℕ, ◌-◌, ◌<◌, Bool, true, false, Option, Some, None, List, [], ◌∷◌, ◌++◌, length, drop, slice_set, refl, sym, ap, subst, ◌∙◌, inl, inr}
+use Rattle.std.specs.Prelude.{Result, IfOk, Ok, Err}
 use mathlib.Core.List.{IsPrefix}
 use Rattle.addr_pattern.specs.declared.endpoint.Endpoint.{Endpoint}
 use Rattle.conf_model.specs.declared.config.Config.{Config}
@@ -342,3 +343,8 @@ sends-payload {L = L} told counts users pubs generation config most h marks net 
 -- nothing was written to a target that has just come up
 pub unsent-behind : {L : Type 0} (told : L → Told) (net net' : NetTold) (now : ℕ) (a b : Assoc L) (local : Endpoint) → HasDialled told net net' now a b (DialOutcome.CameUp local) → (b.state).sent_t ≡ []
 unsent-behind told net net' now a b local k = ap (λ (r : Record). r.sent_t) k.state' ∙ ((judged-in told net net' now a b (DialOutcome.CameUp local) k).untargeted).sent_t
+
+-- what follows from a fact of each value follows of a result
+pub if-ok-more : {A E : Type 0} (r : Result A E) (P Q : A → Type 0) → ((x : A) → P x → Q x) → IfOk r P → IfOk r Q
+if-ok-more (Ok x) P Q f h = f x h
+if-ok-more (Err e) P Q f h = h
