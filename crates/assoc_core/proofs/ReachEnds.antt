@@ -1,19 +1,22 @@
 -- How a turn that dials ends: the target is greeted, or the client is refused.
-use Rattle.std.proofs.Common.{◌≡◌, ℕ, ◌-◌, ◌<◌, Bool, true, false, Option, Some, None, List, [], ◌∷◌, ◌++◌, length, drop, slice_set, refl, sym, ap, subst, ◌∙◌, inl, inr}
+use Rattle.std.proofs.Common.{◌≡◌, ℕ, ◌-◌, ◌<◌, Bool, true, false, Option, Some, None, List, [], ◌∷◌, ◌++◌, length, drop, slice_set, option_map, refl, sym, ap, subst, ◌∙◌, inl, inr}
 use Rattle.std.specs.Prelude.{Result, IfOk, Ok, Err}
 use mathlib.Core.List.{IsPrefix}
 use Rattle.addr_pattern.specs.declared.endpoint.Endpoint.{Endpoint}
 use Rattle.conf_model.specs.declared.config.Config.{Config}
 use Rattle.conf_model.specs.declared.user.User.{User}
 use Rattle.net_ends.specs.Counts.{Counts, Later, Rose}
-use Rattle.net_ends.specs.Nets.{DialOutcome, NetTold, Plan}
+use Rattle.net_ends.specs.Nets.{DialOutcome, NetTold, Plan, dialled}
 use Rattle.net_ends.specs.Told.{Told, more}
+use Rattle.rule_list.specs.declared.facts.Facts.{Facts}
+use Rattle.rule_list.specs.declared.verdict.Verdict.{Verdict}
 use Rattle.socks_machine.specs.declared.cause.Cause.{Cause}
 use Rattle.socks_machine.specs.declared.cause.StopBy.{StopBy}
 use Rattle.socks_machine.specs.declared.lines.Line.{Line}
+use Rattle.socks_machine.specs.declared.record.Decision.{Decision}
 use Rattle.socks_machine.specs.declared.record.Record.{Record}
 use Rattle.socks_machine.specs.declared.world.Object.{Object}
-use Rattle.socks_machine.specs.Decisions.{reached_at}
+use Rattle.socks_machine.specs.Decisions.{granted, reached_at}
 use Rattle.socks_machine.specs.Settle.{first_cause}
 use Rattle.socks_machine.specs.Socks.{chosen_reply}
 use Rattle.assoc_core.specs.declared.assoc.Assoc.{Assoc}
@@ -25,7 +28,7 @@ use Rattle.assoc_core.specs.Sending.{Sends, SendEnds}
 use Rattle.assoc_core.specs.Stands.{Stands, Holds, HoldsTarget, EndsBehind, GivesFirst}
 use Rattle.assoc_core.specs.Turns.{Turns, SameOutside, SameTarget, IsUnfailing, IsFull, IsThereAnd, context}
 use Rattle.assoc_core.proofs.Answering.{all-owed, with_link}
-use Rattle.assoc_core.proofs.GrantTurns.{GrantEnds, fault_of, with_failure}
+use Rattle.assoc_core.proofs.GrantTurns.{last-set, GrantEnds, fault_of, with_failure}
 use Rattle.assoc_core.proofs.Reaching.{Dialling, behind, before, context_of, payload-none, with_object}
 use Rattle.assoc_core.proofs.ReachTurns.{judged-in, Reaches, ReachWrites, FailedWrite, dialling_of, before-is, behind-is, turns-reached, due_c, first-due, told_taken, holds-new, target-none}
 use Rattle.assoc_core.proofs.Sendings.{more-nil}
@@ -348,3 +351,73 @@ unsent-behind told net net' now a b local k = ap (λ (r : Record). r.sent_t) k.s
 pub if-ok-more : {A E : Type 0} (r : Result A E) (P Q : A → Type 0) → ((x : A) → P x → Q x) → IfOk r P → IfOk r Q
 if-ok-more (Ok x) P Q f h = f x h
 if-ok-more (Err e) P Q f h = h
+
+-- ---- the dial
+
+granted-facts : (ds : List Decision) (to : Endpoint) (g : ℕ) (rule : Option ℕ) (g' : ℕ) (facts : Facts) (verdict : Verdict)
+    → Some to ≡ option_map (λ x. x.facts.to) (granted ds) → ds ≡ Decision.Opened g rule None ∷ Decision.Granted g' facts verdict None None ∷ [] → to ≡ facts.to
+granted-facts ds to g rule g' facts verdict e is = let k : Some to ≡ Some facts.to = e ∙ ap (λ (z : List Decision). option_map (λ x. x.facts.to) (granted z)) is in cc
+
+-- what the code knows of a dial
+pub record Dials {L : Type 0} (told : L → Told) (net net' : NetTold) (now : ℕ) (a : Assoc L) (to : Endpoint) (pushed : List Decision) (outcome : DialOutcome) : Type 0 where
+  pub to' : Some to ≡ option_map (λ x. x.facts.to) (granted (a.state).decisions)
+  pub pushed' : pushed ≡ (a.state).decisions ++ Decision.Reached to None ∷ []
+  pub dials : net'.dials ≡ dialled net.dials (record { to = to; outcome = outcome })
+  pub planned : (plan : Plan) → net.plan ≡ Some plan → outcome ≡ plan.outcome
+  pub kept : at_of outcome ≡ None → net'.plan ≡ net.plan
+
+pub dialled-down : {L : Type 0} (told : L → Told) (net net' : NetTold) (now : ℕ) (a : Assoc L) (to : Endpoint) (pushed : List Decision) (o : DialOutcome) (g g' : ℕ) (rule : Option ℕ) (facts : Facts) (verdict : Verdict)
+    → Dials told net net' now a to pushed o → at_of o ≡ None → Stands told a → (a.state).since ≡ now → (a.state).cause ≡ None
+    → (a.state).decisions ≡ Decision.Opened g rule None ∷ Decision.Granted g' facts verdict None None ∷ []
+    → HasDialled told net net' now a (record { state = (let r = a.state in record r { decisions = pushed }); client = a.client; target = a.target }) o
+dialled-down told net net' now a to pushed o g g' rule facts verdict k none standing since uncaused is = record {
+  stands = standing;
+  g = g;
+  rule = rule;
+  g' = g';
+  facts = facts;
+  verdict = verdict;
+  granted' = is;
+  uncaused = uncaused;
+  since = since;
+  state' = λ i. let r = a.state in record r {
+    since = since i;
+    decisions = (k.pushed' ∙ (λ n. (a.state).decisions ++ Decision.Reached (to-is n) (sym none n) ∷ [])) i;
+  };
+  client' = refl;
+  target' = refl;
+  dials = k.dials ∙ ap (λ (e : Endpoint). dialled net.dials (record { to = e; outcome = o })) to-is;
+  planned = k.planned;
+  kept = k.kept;
+}
+  where
+    to-is : to ≡ facts.to
+    to-is = granted-facts (a.state).decisions to g rule g' facts verdict k.to' is
+
+pub dialled-up : {L : Type 0} (told : L → Told) (net net' : NetTold) (now : ℕ) (a : Assoc L) (to local : Endpoint) (pushed after : List Decision) (g g' : ℕ) (rule : Option ℕ) (facts : Facts) (verdict : Verdict)
+    → Dials told net net' now a to pushed (DialOutcome.CameUp local) → after ≡ slice_set pushed (length pushed - 1) (Decision.Reached to (Some local)) → Stands told a → (a.state).since ≡ now → (a.state).cause ≡ None
+    → (a.state).decisions ≡ Decision.Opened g rule None ∷ Decision.Granted g' facts verdict None None ∷ []
+    → HasDialled told net net' now a (record { state = (let r = a.state in record r { decisions = after; since = now }); client = a.client; target = a.target }) (DialOutcome.CameUp local)
+dialled-up told net net' now a to local pushed after g g' rule facts verdict k set' standing since uncaused is = record {
+  stands = standing;
+  g = g;
+  rule = rule;
+  g' = g';
+  facts = facts;
+  verdict = verdict;
+  granted' = is;
+  uncaused = uncaused;
+  since = since;
+  state' = λ i. let r = a.state in record r {
+    since = now;
+    decisions = (last-set (a.state).decisions pushed after (Decision.Reached to None) (Decision.Reached to (Some local)) k.pushed' set' ∙ (λ n. (a.state).decisions ++ Decision.Reached (to-is n) (Some local) ∷ [])) i;
+  };
+  client' = refl;
+  target' = refl;
+  dials = k.dials ∙ ap (λ (e : Endpoint). dialled net.dials (record { to = e; outcome = DialOutcome.CameUp local })) to-is;
+  planned = k.planned;
+  kept = k.kept;
+}
+  where
+    to-is : to ≡ facts.to
+    to-is = granted-facts (a.state).decisions to g rule g' facts verdict k.to' is
