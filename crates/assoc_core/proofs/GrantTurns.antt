@@ -60,7 +60,7 @@ use Rattle.assoc_core.proofs.TalkTurns.{Talked, turns-talked, talk_acts, talk_ev
 
 -- ---- as the code asks
 
-last-set : (ds now after : List Decision) (x y : Decision) → now ≡ ds ++ x ∷ [] → after ≡ slice_set now (length now - 1) y → after ≡ ds ++ y ∷ []
+pub last-set : (ds now after : List Decision) (x y : Decision) → now ≡ ds ++ x ∷ [] → after ≡ slice_set now (length now - 1) y → after ≡ ds ++ y ∷ []
 last-set ds now after x y now' after' =
     let n : length now - 1 ≡ length ds = omega (arith, ap (λ (z : List Decision). length z) now', length-append ds (x ∷ [])) in
     after' ∙ ((λ i. slice_set (now' i) (n i) y) ∙ set-append_seam ds x [] y)

@@ -1,18 +1,22 @@
 -- How a turn that dials ends: the target is greeted, or the client is refused.
-use Rattle.std.proofs.Common.{◌≡◌, ℕ, ◌-◌, ◌<◌, Bool, true, false, Option, Some, None, List, [], ◌∷◌, ◌++◌, length, drop, slice_set, refl, sym, ap, subst, ◌∙◌, inl, inr}
+use Rattle.std.proofs.Common.{◌≡◌, ℕ, ◌-◌, ◌<◌, Bool, true, false, Option, Some, None, List, [], ◌∷◌, ◌++◌, length, drop, slice_set, option_map, refl, sym, ap, subst, ◌∙◌, inl, inr}
+use Rattle.std.specs.Prelude.{Result, IfOk, Ok, Err}
 use mathlib.Core.List.{IsPrefix}
 use Rattle.addr_pattern.specs.declared.endpoint.Endpoint.{Endpoint}
 use Rattle.conf_model.specs.declared.config.Config.{Config}
 use Rattle.conf_model.specs.declared.user.User.{User}
 use Rattle.net_ends.specs.Counts.{Counts, Later, Rose}
-use Rattle.net_ends.specs.Nets.{DialOutcome, NetTold, Plan}
+use Rattle.net_ends.specs.Nets.{DialOutcome, NetTold, Plan, dialled}
 use Rattle.net_ends.specs.Told.{Told, more}
+use Rattle.rule_list.specs.declared.facts.Facts.{Facts}
+use Rattle.rule_list.specs.declared.verdict.Verdict.{Verdict}
 use Rattle.socks_machine.specs.declared.cause.Cause.{Cause}
 use Rattle.socks_machine.specs.declared.cause.StopBy.{StopBy}
 use Rattle.socks_machine.specs.declared.lines.Line.{Line}
+use Rattle.socks_machine.specs.declared.record.Decision.{Decision}
 use Rattle.socks_machine.specs.declared.record.Record.{Record}
 use Rattle.socks_machine.specs.declared.world.Object.{Object}
-use Rattle.socks_machine.specs.Decisions.{reached_at}
+use Rattle.socks_machine.specs.Decisions.{granted, reached_at}
 use Rattle.socks_machine.specs.Settle.{first_cause}
 use Rattle.socks_machine.specs.Socks.{chosen_reply}
 use Rattle.assoc_core.specs.declared.assoc.Assoc.{Assoc}
@@ -21,12 +25,13 @@ use Rattle.assoc_core.specs.declared.send.Sent.{Sent}
 use Rattle.assoc_core.specs.Plain.{owed_c, plain_to_target, success_reply, refusal_owed, payload_to_client}
 use Rattle.assoc_core.specs.Reaching.{HasDialled, HasGreeted, IsNewLink, SameDesk, at_of, cause_of}
 use Rattle.assoc_core.specs.Sending.{Sends, SendEnds}
-use Rattle.assoc_core.specs.Stands.{Stands, HoldsTarget}
+use Rattle.assoc_core.specs.Stands.{Stands, Holds, HoldsTarget, EndsBehind, GivesFirst}
 use Rattle.assoc_core.specs.Turns.{Turns, SameOutside, SameTarget, IsUnfailing, IsFull, IsThereAnd, context}
 use Rattle.assoc_core.proofs.Answering.{all-owed, with_link}
-use Rattle.assoc_core.proofs.GrantTurns.{GrantEnds, fault_of, with_failure}
+use Rattle.assoc_core.proofs.GrantTurns.{last-set, GrantEnds, fault_of, with_failure}
 use Rattle.assoc_core.proofs.Reaching.{Dialling, behind, before, context_of, payload-none, with_object}
-use Rattle.assoc_core.proofs.ReachTurns.{Reaches, ReachWrites, FailedWrite, dialling_of, before-is, behind-is, turns-reached, due_c, first-due, told_taken, holds-new, target-none}
+use Rattle.assoc_core.proofs.ReachTurns.{judged-in, Reaches, ReachWrites, FailedWrite, dialling_of, before-is, behind-is, turns-reached, due_c, first-due, told_taken, holds-new, target-none}
+use Rattle.assoc_core.proofs.Sendings.{more-nil}
 use Rattle.assoc_core.proofs.StandsLaws.{same-target}
 use Rattle.assoc_core.proofs.TalkTurns.{with_state}
 
@@ -144,3 +149,275 @@ refuses-turn {L = L} told counts users pubs generation config most h marks net n
 
     clash : (told a.client).unfailing ≡ true → (told client).unfailing ≡ false → ⊥
     clash e1 e2 = let e3 : (told client).unfailing ≡ (told a.client).unfailing = ap (λ (w : Told). w.unfailing) sends'.told' ∙ ap (λ (l : L). (told l).unfailing) k.client' in cc
+
+-- ---- the target is greeted
+
+-- all of what a turn that reached its target wrote
+pub record Greets {L : Type 0} (told : L → Told) (counts : L → Counts) (b z : Assoc L) (new link : L) (y_c rest_c rest_t : List ℕ) (full_c full_t : Bool) (fault : Option Object) (unwritten : Bool) : Type 0 where
+  pub pending' : y_c ++ rest_c ≡ drop (length (b.state).sent_c) (owed_c b.state)
+  pub state' : z.state ≡ (let r = b.state in record r { sent_c = r.sent_c ++ y_c; sent_t = (z.state).sent_t; cause = with_object fault r.cause })
+  pub all_t : (z.state).sent_t ++ rest_t ≡ drop 13 (b.state).c
+  pub failing : (d : Dialling) (local : Endpoint) → FailedWrite d (DialOutcome.CameUp local) rest_c rest_t fault unwritten
+  pub told' : told z.client ≡ told_taken (told b.client) y_c
+  pub target' : z.target ≡ Some link
+  pub link' : told link ≡ told_taken (told new) (z.state).sent_t
+  pub fills_c : full_c ≡ true → (0 < length rest_c) × IsFull (told z.client) × Rose (counts b.client).idle_writes (counts z.client).idle_writes
+  pub fills_t : full_t ≡ true → (0 < length rest_t) × IsFull (told link)
+  pub fails_c : fault ≡ Some Object.Client → Rose (counts b.client).faults (counts z.client).faults
+  pub unfailing : (told b.client).unfailing ≡ true → (told new).unfailing ≡ true → (fault ≡ None) × (unwritten ≡ false)
+
+some-clash : {A : Type 0} (x : A) → Some x ≡ None → ⊥
+some-clash x e = cc
+
+pub greets-turn : {L : Type 0} (told : L → Told) (counts : L → Counts) (users : List User) (pubs : List Config) (generation : ℕ) (config : Config) (most : ℕ) (h : List Line) (marks : List StopBy)
+    (net net' : NetTold) (now : ℕ) (a b z : Assoc L) (local : Endpoint) (new link : L) (y_c rest_c rest_t : List ℕ) (full_c full_t : Bool) (fault : Option Object) (unwritten : Bool)
+    → HasDialled told net net' now a b (DialOutcome.CameUp local) → IsNewLink (told new) net → Greets told counts b z new link y_c rest_c rest_t full_c full_t fault unwritten
+    → Turns told counts (SameDesk h marks) (context users pubs generation config most h marks) now net net' a (Next.Again z)
+greets-turn {L = L} told counts users pubs generation config most h marks net net' now a b z local new link y_c rest_c rest_t full_c full_t fault unwritten k v w =
+    turns-dialled told counts users pubs generation config most h marks net net' now a b z o k y_c rest_c rest_t full_c full_t fault unwritten (record {
+      state' = is;
+      writes = record {
+        sent_c' = refl;
+        all_c = all-owed d.sent y_c rest_c (due_c d o) (first-due d _) (w.pending' ∙ (ap (λ (r : Record). drop (length r.sent_c) (owed_c r)) b-is ∙ ap (drop (length d.sent)) (owed-behind d o)));
+        all_t = w.all_t ∙ ap (λ (r : Record). drop 13 r.c) b-is;
+        failing = w.failing d local;
+      };
+      unsent_t = λ e. absurd (some-clash local e);
+      dials = k.dials;
+      planned = k.planned;
+      kept = k.kept;
+      told' = w.told' ∙ ap (λ (l : L). told_taken (told l) y_c) k.client';
+      target' = subst (λ (t : Option L). HoldsTarget told z.state t) (sym w.target') (subst (λ (r : Record). HoldsTarget told r (Some link)) (sym is)
+          (subst (λ (t : Told). ((at : Endpoint) × (Some local ≡ Some at)) × Holds t [] (z.state).sent_t false false × EndsBehind t × GivesFirst t) (sym w.link')
+          ((local, refl), (holds-new (told new) (z.state).sent_t v.fresh).0, (holds-new (told new) (z.state).sent_t v.fresh).1, (holds-new (told new) (z.state).sent_t v.fresh).2)));
+      same_target = subst (λ (t : Option L). SameTarget told net a.target t) (sym w.target') (subst (λ (t : Option L). SameTarget told net t (Some link)) (sym no-target) same-link);
+      fills_c = λ e. ((w.fills_c e).0, (w.fills_c e).1, subst (λ (l : L). Rose (counts l).idle_writes (counts z.client).idle_writes) k.client' (w.fills_c e).2);
+      fills_t = λ e. ((w.fills_t e).0, subst (λ (t : Option L). IsThereAnd t (λ l. IsFull (told l))) (sym w.target') (w.fills_t e).1);
+      fails_c = λ e. subst (λ (l : L). Rose (counts l).faults (counts z.client).faults) k.client' (w.fails_c e);
+      unfailing = λ e1 e2. w.unfailing (subst (λ (l : L). (told l).unfailing ≡ true) (sym k.client') e1) (new-unfailing (subst (λ (t : Option L). IsUnfailing told net t) no-target e2));
+    })
+  where
+    o : DialOutcome
+    o = DialOutcome.CameUp local
+
+    d : Dialling
+    d = dialling_of told users pubs generation config most h marks net net' now a b o k
+
+    b-is : b.state ≡ behind d (Some local) d.sent [] None
+    b-is = behind-is told users pubs generation config most h marks net net' now a b o k
+
+    is : z.state ≡ behind d (Some local) (d.sent ++ y_c) (z.state).sent_t (with_object fault None)
+    is = w.state' ∙ ap (λ (r : Record). let x : Record = record r { sent_c = r.sent_c ++ y_c; sent_t = (z.state).sent_t; cause = with_object fault r.cause } in x) b-is
+
+    no-target : a.target ≡ None
+    no-target = target-none told a.state a.target (ap reached_at k.granted') (k.stands).target
+
+    same-link : (plan : Plan) → net.plan ≡ Some plan → SameOutside plan.link (told link)
+    same-link plan e = subst (λ (t : Told). SameOutside plan.link t) (sym w.link')
+        (subst (λ (t : Told). SameOutside plan.link (told_taken t (z.state).sent_t)) (sym (v.planned plan e)) (record { arrived = refl; cap = refl; unfailing = refl }))
+
+    new-unfailing : (plan : Plan) × (net.plan ≡ Some plan) × ((plan.link).unfailing ≡ true) → (told new).unfailing ≡ true
+    new-unfailing u = ap (λ (t : Told). t.unfailing) (v.planned u.0 u.1) ∙ u.2
+
+-- the write to the client has failed
+pub greets-none : {L : Type 0} (told : L → Told) (counts : L → Counts) (b : Assoc L) (new client : L) (s : Record) (last : Option Cause)
+    → s ≡ (let r = b.state in record r { sent_c = s.sent_c })
+    → (b.state).sent_t ≡ [] → (sends : Sends (told b.client) (told client) (counts b.client) (counts client) (b.state).sent_c s.sent_c (drop (length (b.state).sent_c) (owed_c b.state)) Sent.Failed)
+    → last ≡ first_cause (Some Cause.ClientFault) s.cause
+    → Greets told counts b (record { state = record s { cause = last }; client = client; target = Some new }) new new sends.bytes sends.rest (drop 13 (b.state).c) false false (Some Object.Client) true
+greets-none {L = L} told counts b new client s last state' unsent sends last' = record {
+  pending' = sends.pending';
+  state' = (λ i. record s { cause = last' i }) ∙ (λ i. let r : Record = state' i in record r { cause = first_cause (Some Cause.ClientFault) r.cause })
+      ∙ (λ i. let r : Record = b.state in record r { sent_c = sends.after' i; sent_t = same i; cause = first_cause (Some Cause.ClientFault) r.cause });
+  all_t = ap (λ (w : List ℕ). w ++ drop 13 (b.state).c) unsent';
+  failing = λ d local. (refl, (sends.ends).0);
+  told' = sends.told';
+  target' = refl;
+  link' = (λ i. let t : Told = told new in record t { taken = sym (more-nil t.taken) i }) ∙ (λ i. told_taken (told new) (sym unsent' i));
+  fills_c = λ e. absurd (cc);
+  fills_t = λ e. absurd (cc);
+  fails_c = λ e. (sends.ends).2;
+  unfailing = λ e1 e2. absurd (clash e1 (sends.ends).1);
+}
+  where
+    unsent' : s.sent_t ≡ []
+    unsent' = ap (λ (r : Record). r.sent_t) state' ∙ unsent
+
+    same : (b.state).sent_t ≡ s.sent_t
+    same = sym (ap (λ (r : Record). r.sent_t) state')
+
+    clash : (told b.client).unfailing ≡ true → (told client).unfailing ≡ false → ⊥
+    clash e1 e2 = let e3 : (told client).unfailing ≡ (told b.client).unfailing = ap (λ (w : Told). w.unfailing) sends.told' in cc
+
+-- as much of the reply was written as the client took
+pub has-greeted : {L : Type 0} (told : L → Told) (counts : L → Counts) (b : Assoc L) (client : L) (s : Record) (full : Bool) (outcome : Sent)
+    → s ≡ (let r = b.state in record r { sent_c = s.sent_c })
+    → Sends (told b.client) (told client) (counts b.client) (counts client) (b.state).sent_c s.sent_c (drop (length (b.state).sent_c) (owed_c b.state)) outcome
+    → ((rest : List ℕ) → SendEnds (told client) (counts b.client) (counts client) rest outcome → full ≡ true → (0 < length rest) × IsFull (told client) × Rose (counts b.client).idle_writes (counts client).idle_writes)
+    → HasGreeted told counts b (with_link b s client) full
+has-greeted told counts b client s full outcome state' sends by = record {
+  bytes = sends.bytes;
+  rest = sends.rest;
+  pending' = sends.pending';
+  state' = state' ∙ (λ i. let r : Record = b.state in record r { sent_c = sends.after' i });
+  target' = refl;
+  told' = sends.told';
+  later = sends.later;
+  full' = by sends.rest sends.ends;
+}
+
+abbrev pub target_fault : Bool → Option Object
+target_fault true = Some Object.Target
+target_fault false = None
+
+abbrev pub with_target_failure : Bool → Option Cause → Option Cause
+with_target_failure true cause = first_cause (Some Cause.TargetFault) cause
+with_target_failure false cause = cause
+
+as-target : (failed : Bool) (cause : Option Cause) → with_target_failure failed cause ≡ with_object (target_fault failed) cause
+as-target true cause = refl
+as-target false cause = refl
+
+target-failed-as : (d : Dialling) (local : Endpoint) (rest_c rest_t : List ℕ) (failed : Bool) → (failed ≡ true → 0 < length rest_t) → FailedWrite d (DialOutcome.CameUp local) rest_c rest_t (target_fault failed) failed
+target-failed-as d local rest_c rest_t true h = (refl, h refl, (local, refl))
+target-failed-as d local rest_c rest_t false h = refl
+
+not-client : (failed : Bool) → target_fault failed ≡ Some Object.Client → ⊥
+not-client true e = cc
+not-client false e = cc
+
+no-target-fault : (failed : Bool) → (failed ≡ true → ⊥) → (target_fault failed ≡ None) × (failed ≡ false)
+no-target-fault true h = absurd (h refl)
+no-target-fault false h = (refl, refl)
+
+-- why the write to the target stopped
+pub record PayloadEnds (told : Told) (rest : List ℕ) (full failed : Bool) : Type 0 where
+  pub full' : full ≡ true → (0 < length rest) × IsFull told
+  pub failed' : failed ≡ true → (0 < length rest) × (told.unfailing ≡ false)
+
+pub sends-payload : {L : Type 0} (told : L → Told) (counts : L → Counts) (users : List User) (pubs : List Config) (generation : ℕ) (config : Config) (most : ℕ) (h : List Line) (marks : List StopBy)
+    (net net' : NetTold) (now : ℕ) (a b z : Assoc L) (local : Endpoint) (new link : L) (s : Record) (last : Option Cause) (full full_t failed : Bool) (outcome : Sent)
+    → HasDialled told net net' now a b (DialOutcome.CameUp local) → IsNewLink (told new) net → HasGreeted told counts b z full
+    → s ≡ (let r = z.state in record r { sent_t = s.sent_t })
+    → Sends (told new) (told link) (counts new) (counts link) (z.state).sent_t s.sent_t (drop (length (z.state).sent_t) (drop 13 (z.state).c)) outcome
+    → ((rest : List ℕ) → SendEnds (told link) (counts new) (counts link) rest outcome → PayloadEnds (told link) rest full_t failed)
+    → last ≡ with_target_failure failed s.cause
+    → Turns told counts (SameDesk h marks) (context users pubs generation config most h marks) now net net' a (Next.Again (record { state = record s { cause = last }; client = z.client; target = Some link }))
+sends-payload {L = L} told counts users pubs generation config most h marks net net' now a b z local new link s last full full_t failed outcome k v g state' sends by last' =
+    greets-turn told counts users pubs generation config most h marks net net' now a b z' local new link g.bytes g.rest sends'.rest full full_t (target_fault failed) failed k v (record {
+      pending' = g.pending';
+      state' = (λ i. record s { cause = (last' ∙ as-target failed s.cause) i }) ∙ (λ i. let r : Record = s-is i in record r { cause = with_object (target_fault failed) r.cause });
+      all_t = ap (λ w. w ++ sends'.rest) sends'.after' ∙ sends'.pending';
+      failing = λ d local. target-failed-as d local g.rest sends'.rest failed (λ e. (ends.failed' e).0);
+      told' = g.told';
+      target' = refl;
+      link' = sends'.told' ∙ ap (told_taken (told new)) (sym sends'.after');
+      fills_c = g.full';
+      fills_t = ends.full';
+      fails_c = λ e. absurd (not-client failed e);
+      unfailing = λ e1 e2. no-target-fault failed (λ e3. clash e2 (ends.failed' e3).1);
+    })
+  where
+    d : Dialling
+    d = dialling_of told users pubs generation config most h marks net net' now a b (DialOutcome.CameUp local) k
+
+    z' : Assoc L
+    z' = record { state = record s { cause = last }; client = z.client; target = Some link }
+
+    z-is : z.state ≡ (let r = b.state in record r { sent_c = r.sent_c ++ g.bytes })
+    z-is = g.state'
+
+    unsent : (z.state).sent_t ≡ []
+    unsent = ap (λ (r : Record). r.sent_t) z-is ∙ ap (λ (r : Record). r.sent_t) (behind-is told users pubs generation config most h marks net net' now a b (DialOutcome.CameUp local) k)
+
+    s-is : s ≡ (let r = b.state in record r { sent_c = r.sent_c ++ g.bytes; sent_t = s.sent_t })
+    s-is = state' ∙ (λ i. let r : Record = z-is i in record r { sent_t = s.sent_t })
+
+    sends' : Sends (told new) (told link) (counts new) (counts link) [] s.sent_t (drop 13 (b.state).c) outcome
+    sends' = subst (λ (c : List ℕ). Sends (told new) (told link) (counts new) (counts link) [] s.sent_t (drop 13 c) outcome) (ap (λ (r : Record). r.c) z-is)
+        (subst (λ (w : List ℕ). Sends (told new) (told link) (counts new) (counts link) w s.sent_t (drop (length w) (drop 13 (z.state).c)) outcome) unsent sends)
+
+    ends : PayloadEnds (told link) sends'.rest full_t failed
+    ends = by sends'.rest sends'.ends
+
+    clash : (told new).unfailing ≡ true → (told link).unfailing ≡ false → ⊥
+    clash e1 e2 = let e3 : (told link).unfailing ≡ (told new).unfailing = ap (λ (w : Told). w.unfailing) sends'.told' in cc
+
+-- nothing was written to a target that has just come up
+pub unsent-behind : {L : Type 0} (told : L → Told) (net net' : NetTold) (now : ℕ) (a b : Assoc L) (local : Endpoint) → HasDialled told net net' now a b (DialOutcome.CameUp local) → (b.state).sent_t ≡ []
+unsent-behind told net net' now a b local k = ap (λ (r : Record). r.sent_t) k.state' ∙ ((judged-in told net net' now a b (DialOutcome.CameUp local) k).untargeted).sent_t
+
+-- what follows from a fact of each value follows of a result
+pub if-ok-more : {A E : Type 0} (r : Result A E) (P Q : A → Type 0) → ((x : A) → P x → Q x) → IfOk r P → IfOk r Q
+if-ok-more (Ok x) P Q f h = f x h
+if-ok-more (Err e) P Q f h = h
+
+-- ---- the dial
+
+granted-facts : (ds : List Decision) (to : Endpoint) (g : ℕ) (rule : Option ℕ) (g' : ℕ) (facts : Facts) (verdict : Verdict)
+    → Some to ≡ option_map (λ x. x.facts.to) (granted ds) → ds ≡ Decision.Opened g rule None ∷ Decision.Granted g' facts verdict None None ∷ [] → to ≡ facts.to
+granted-facts ds to g rule g' facts verdict e is = let k : Some to ≡ Some facts.to = e ∙ ap (λ (z : List Decision). option_map (λ x. x.facts.to) (granted z)) is in cc
+
+-- what the code knows of a dial
+pub record Dials {L : Type 0} (told : L → Told) (net net' : NetTold) (now : ℕ) (a : Assoc L) (to : Endpoint) (pushed : List Decision) (outcome : DialOutcome) : Type 0 where
+  pub to' : Some to ≡ option_map (λ x. x.facts.to) (granted (a.state).decisions)
+  pub pushed' : pushed ≡ (a.state).decisions ++ Decision.Reached to None ∷ []
+  pub dials : net'.dials ≡ dialled net.dials (record { to = to; outcome = outcome })
+  pub planned : (plan : Plan) → net.plan ≡ Some plan → outcome ≡ plan.outcome
+  pub kept : at_of outcome ≡ None → net'.plan ≡ net.plan
+
+pub dialled-down : {L : Type 0} (told : L → Told) (net net' : NetTold) (now : ℕ) (a : Assoc L) (to : Endpoint) (pushed : List Decision) (o : DialOutcome) (g g' : ℕ) (rule : Option ℕ) (facts : Facts) (verdict : Verdict)
+    → Dials told net net' now a to pushed o → at_of o ≡ None → Stands told a → (a.state).since ≡ now → (a.state).cause ≡ None
+    → (a.state).decisions ≡ Decision.Opened g rule None ∷ Decision.Granted g' facts verdict None None ∷ []
+    → HasDialled told net net' now a (record { state = (let r = a.state in record r { decisions = pushed }); client = a.client; target = a.target }) o
+dialled-down told net net' now a to pushed o g g' rule facts verdict k none standing since uncaused is = record {
+  stands = standing;
+  g = g;
+  rule = rule;
+  g' = g';
+  facts = facts;
+  verdict = verdict;
+  granted' = is;
+  uncaused = uncaused;
+  since = since;
+  state' = λ i. let r = a.state in record r {
+    since = since i;
+    decisions = (k.pushed' ∙ (λ n. (a.state).decisions ++ Decision.Reached (to-is n) (sym none n) ∷ [])) i;
+  };
+  client' = refl;
+  target' = refl;
+  dials = k.dials ∙ ap (λ (e : Endpoint). dialled net.dials (record { to = e; outcome = o })) to-is;
+  planned = k.planned;
+  kept = k.kept;
+}
+  where
+    to-is : to ≡ facts.to
+    to-is = granted-facts (a.state).decisions to g rule g' facts verdict k.to' is
+
+pub dialled-up : {L : Type 0} (told : L → Told) (net net' : NetTold) (now : ℕ) (a : Assoc L) (to local : Endpoint) (pushed after : List Decision) (g g' : ℕ) (rule : Option ℕ) (facts : Facts) (verdict : Verdict)
+    → Dials told net net' now a to pushed (DialOutcome.CameUp local) → after ≡ slice_set pushed (length pushed - 1) (Decision.Reached to (Some local)) → Stands told a → (a.state).since ≡ now → (a.state).cause ≡ None
+    → (a.state).decisions ≡ Decision.Opened g rule None ∷ Decision.Granted g' facts verdict None None ∷ []
+    → HasDialled told net net' now a (record { state = (let r = a.state in record r { decisions = after; since = now }); client = a.client; target = a.target }) (DialOutcome.CameUp local)
+dialled-up told net net' now a to local pushed after g g' rule facts verdict k set' standing since uncaused is = record {
+  stands = standing;
+  g = g;
+  rule = rule;
+  g' = g';
+  facts = facts;
+  verdict = verdict;
+  granted' = is;
+  uncaused = uncaused;
+  since = since;
+  state' = λ i. let r = a.state in record r {
+    since = now;
+    decisions = (last-set (a.state).decisions pushed after (Decision.Reached to None) (Decision.Reached to (Some local)) k.pushed' set' ∙ (λ n. (a.state).decisions ++ Decision.Reached (to-is n) (Some local) ∷ [])) i;
+  };
+  client' = refl;
+  target' = refl;
+  dials = k.dials ∙ ap (λ (e : Endpoint). dialled net.dials (record { to = e; outcome = DialOutcome.CameUp local })) to-is;
+  planned = k.planned;
+  kept = k.kept;
+}
+  where
+    to-is : to ≡ facts.to
+    to-is = granted-facts (a.state).decisions to g rule g' facts verdict k.to' is

@@ -94,7 +94,6 @@ pub record ReachWrites (d : Dialling) (o : DialOutcome) (y_c rest_c sent_c rest_
   pub all_t : sent_t ++ rest_t ≡ plain_to_target d.c (at_of o)
   pub failing : FailedWrite d o rest_c rest_t fault unwritten
 
-
 or-middle : (a b c : Bool) → b ≡ true → a || b || c ≡ true
 or-middle true b c h = refl
 or-middle false true c h = refl

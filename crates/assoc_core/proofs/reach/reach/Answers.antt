@@ -1,0 +1,65 @@
+use Rattle.std.proofs.Common.{rules, refl}
+use Rattle.net_ends.specs.Nets.{DialOutcome}
+use Rattle.assoc_core.proofs.ReachEnds.{dialled-down, dialled-up, if-ok-more}
+use Rattle.assoc_core.proofs.reach.reach.Goals as goal
+
+pub returns-in-Up : goal.returns-in-Up
+returns-in-Up g c = if-ok-more c.greet.result _ _ (λ next h' users pubs generation config most h marks opened' granted' rule facts verdict standing since uncaused is.
+    h' users pubs generation config most h marks (g.N.Net.told c.args.net.now) (g.N.Net.told c.dial.new.self) c.args.now c.args.assoc c.in-Up.local
+    (dialled-up g.N.Link.Link.told (g.N.Net.told c.args.net.now) (g.N.Net.told c.dial.new.self) c.args.now c.args.assoc c.in-Some.to c.in-Up.local c.push.new.self c.set_last.new.self opened' granted' rule facts verdict
+    (record {
+      to' = search rules;
+      pushed' = c.in_ok-push.ensures.ok;
+      dials = c.in-Up.ensures.told;
+      planned = λ plan e. (c.in-Up.ensures.planned plan e).outcome;
+      kept = λ e. absurd (cc);
+    }) c.set_last.ensures standing since uncaused is)
+    (record { fresh = c.in-Up.ensures.fresh; planned = λ plan e. (c.in-Up.ensures.planned plan e).link })) c.greet.ensures
+
+pub returns-in-Refused : goal.returns-in-Refused
+returns-in-Refused g c = if-ok-more c.refuse.result _ _ (λ next h' users pubs generation config most h marks opened' granted' rule facts verdict standing since uncaused is.
+    h' users pubs generation config most h marks (g.N.Net.told c.args.net.now) (g.N.Net.told c.dial.new.self) c.args.now c.args.assoc DialOutcome.WasRefused
+    (dialled-down g.N.Link.Link.told (g.N.Net.told c.args.net.now) (g.N.Net.told c.dial.new.self) c.args.now c.args.assoc c.in-Some.to c.push.new.self DialOutcome.WasRefused opened' granted' rule facts verdict
+    (record {
+      to' = search rules;
+      pushed' = c.in_ok-push.ensures.ok;
+      dials = c.in-Refused.ensures.told;
+      planned = λ plan e. (c.in-Refused.ensures.planned plan e).outcome;
+      kept = λ e. c.in-Refused.ensures.kept;
+    }) refl standing since uncaused is) refl) c.refuse.ensures
+
+pub returns-in-HostUnreachable : goal.returns-in-HostUnreachable
+returns-in-HostUnreachable g c = if-ok-more c.refuse-in-HostUnreachable.result _ _ (λ next h' users pubs generation config most h marks opened' granted' rule facts verdict standing since uncaused is.
+    h' users pubs generation config most h marks (g.N.Net.told c.args.net.now) (g.N.Net.told c.dial.new.self) c.args.now c.args.assoc DialOutcome.NoHost
+    (dialled-down g.N.Link.Link.told (g.N.Net.told c.args.net.now) (g.N.Net.told c.dial.new.self) c.args.now c.args.assoc c.in-Some.to c.push.new.self DialOutcome.NoHost opened' granted' rule facts verdict
+    (record {
+      to' = search rules;
+      pushed' = c.in_ok-push.ensures.ok;
+      dials = c.in-HostUnreachable.ensures.told;
+      planned = λ plan e. (c.in-HostUnreachable.ensures.planned plan e).outcome;
+      kept = λ e. c.in-HostUnreachable.ensures.kept;
+    }) refl standing since uncaused is) refl) c.refuse-in-HostUnreachable.ensures
+
+pub returns-in-NetUnreachable : goal.returns-in-NetUnreachable
+returns-in-NetUnreachable g c = if-ok-more c.refuse-in-NetUnreachable.result _ _ (λ next h' users pubs generation config most h marks opened' granted' rule facts verdict standing since uncaused is.
+    h' users pubs generation config most h marks (g.N.Net.told c.args.net.now) (g.N.Net.told c.dial.new.self) c.args.now c.args.assoc DialOutcome.NoNet
+    (dialled-down g.N.Link.Link.told (g.N.Net.told c.args.net.now) (g.N.Net.told c.dial.new.self) c.args.now c.args.assoc c.in-Some.to c.push.new.self DialOutcome.NoNet opened' granted' rule facts verdict
+    (record {
+      to' = search rules;
+      pushed' = c.in_ok-push.ensures.ok;
+      dials = c.in-NetUnreachable.ensures.told;
+      planned = λ plan e. (c.in-NetUnreachable.ensures.planned plan e).outcome;
+      kept = λ e. c.in-NetUnreachable.ensures.kept;
+    }) refl standing since uncaused is) refl) c.refuse-in-NetUnreachable.ensures
+
+pub returns-in-Failed : goal.returns-in-Failed
+returns-in-Failed g c = if-ok-more c.refuse-in-Failed.result _ _ (λ next h' users pubs generation config most h marks opened' granted' rule facts verdict standing since uncaused is.
+    h' users pubs generation config most h marks (g.N.Net.told c.args.net.now) (g.N.Net.told c.dial.new.self) c.args.now c.args.assoc DialOutcome.Fault
+    (dialled-down g.N.Link.Link.told (g.N.Net.told c.args.net.now) (g.N.Net.told c.dial.new.self) c.args.now c.args.assoc c.in-Some.to c.push.new.self DialOutcome.Fault opened' granted' rule facts verdict
+    (record {
+      to' = search rules;
+      pushed' = c.in_ok-push.ensures.ok;
+      dials = c.in-Failed.ensures.told;
+      planned = λ plan e. (c.in-Failed.ensures.planned plan e).outcome;
+      kept = λ e. c.in-Failed.ensures.kept;
+    }) refl standing since uncaused is) refl) c.refuse-in-Failed.ensures
