@@ -26,3 +26,4 @@ pub mod TalkCloses
 pub mod TalkTurns
 pub mod Talking
 pub mod RelayFinish
+pub mod Courses

@@ -12,3 +12,4 @@ pub mod Reads
 pub mod Sending
 pub mod Stands
 pub mod Turns
+pub mod Course

@@ -8,6 +8,7 @@ mod close;
 mod closing;
 mod grant;
 mod hear;
+mod one_turn;
 mod prelude;
 mod reach;
 mod read;
@@ -18,3 +19,4 @@ mod send;
 mod talk;
 
 pub use assoc::{Assoc, Ended, Next};
+pub use one_turn::{Course, turn};

@@ -1,0 +1,69 @@
+ghost use Rattle.std.specs.Prelude.{ℕ, ◌≡◌, List as Items, IfOk};
+ghost use Rattle.conf_model.specs.declared.config.Config.{Config as SomeConfig};
+ghost use Rattle.conf_model.specs.declared.user.User.{User};
+ghost use Rattle.conf_model.specs.Plain.{IsPlain};
+ghost use Rattle.rule_list.specs.Numbers.{FitsNumbers};
+ghost use Rattle.socks_machine.specs.declared.cause.StopBy.{StopBy};
+ghost use Rattle.socks_machine.specs.declared.lines.Line.{Line};
+ghost use Rattle.assoc_core.specs.Course.{IsCourse};
+ghost use Rattle.assoc_core.specs.Stands.{Stands, TellsServed};
+ghost use Rattle.assoc_core.specs.Turns.{Turns, context};
+
+use crate::assoc::{Assoc, Next};
+use crate::reach::reach;
+use conf_model::Config;
+use net_ends::Net;
+use session_desk::DeskCall;
+use socks_machine::Decision;
+use std::alloc::{AllocError, Global};
+
+/// How far an association has come that has no cause yet.
+#[derive(Clone, Copy, Debug, PartialEq, Eq)]
+pub enum Course {
+    Accept,
+    Talk,
+    Reach,
+    Relay,
+}
+
+fn course_of(decisions: &[Decision]) -> Course
+    ensures { IsCourse decisions.now result }
+{
+    match decisions {
+        [] => Course::Accept,
+        [_] => Course::Talk,
+        [_, _] => Course::Reach,
+        [_, _, _, ..] => Course::Relay,
+    }
+}
+
+/// One turn of a worker on an association, with the configuration of the generation that it has seen; `now` is in
+/// seconds. An association that stands for a record makes one lawful turn of the machine on it, and what is answered
+/// stands for the record which that leaves. Want of memory is `Err`, and nothing is said of the association then.
+#[tactic(none)]
+pub fn turn<N: Net, K: DeskCall>(
+    alloc: Global,
+    a: Assoc<N::Link>,
+    generation: u64,
+    config: &Config,
+    desk: &mut K,
+    net: &mut N,
+    now: u64,
+) -> Result<Next<N::Link>, AllocError>
+where
+    N::Link: Drop,
+    requires { FitsNumbers config.now }
+    ensures { IfOk result (λ next. (users : Items User) (pubs : Items SomeConfig) (h : Items Line) (marks : Items StopBy)
+        → K.stands desk.old h marks → Stands N.Link.told a → TellsServed (N.Link.told a.client) → IsPlain config.now → a.state.since ≡ now
+        → Turns N.Link.told N.Link.counts (K.stands desk.new) (context users pubs generation config.now (K.cap desk.old) h marks) now (N.told net.old) (N.told net.new) a next) }
+{
+    if a.state.cause.is_some() {
+        return a.closing(alloc, desk);
+    }
+    match course_of(a.state.decisions.as_slice()) {
+        Course::Accept => a.accept(generation, config, desk),
+        Course::Talk => a.talk(alloc, generation, config, desk),
+        Course::Reach => reach(a, alloc, now, net),
+        Course::Relay => a.relay(alloc, desk),
+    }
+}
