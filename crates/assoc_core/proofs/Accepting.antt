@@ -240,7 +240,7 @@ accepts told counts stands users pubs generation config cap h marks now net a lo
 
 -- ---- as the code has it
 
--- the placeholder is set behind the call
+-- the provisional decision is set behind the call
 placed : (before pushed after : List Decision) (x y : Decision) → before ≡ [] → pushed ≡ before ++ x ∷ [] → after ≡ slice_set pushed (length pushed - 1) y → after ≡ before ++ y ∷ []
 placed before pushed after x y none e1 e2 =
     e2 ∙ (ap (λ p. slice_set p (length p - 1) y) (e1 ∙ ap (λ b. b ++ x ∷ []) none) ∙ ap (λ b. b ++ y ∷ []) (sym none))

@@ -66,16 +66,16 @@ last-set ds now after x y now' after' =
     after' ∙ ((λ i. slice_set (now' i) (n i) y) ∙ set-append_seam ds x [] y)
 
 pub asks : (stands : List Line → List StopBy → Type 0) (h : List Line) (marks : List StopBy) (generation : ℕ) (config : Config) (to : Endpoint) (old : Record) (line : GrantLine) (facts : Facts) (said : Said)
-    (refused why cause : Option Cause) (pushed after : List Decision) (placeholder : Decision)
+    (refused why cause : Option Cause) (pushed after : List Decision) (provisional : Decision)
     → line ≡ request_line generation config old to → facts ≡ connect_facts old to → Grants stands h marks line said
-    → why ≡ blocked generation line.verdict → refused ≡ refusal_full generation said why → pushed ≡ old.decisions ++ placeholder ∷ []
+    → why ≡ blocked generation line.verdict → refused ≡ refusal_full generation said why → pushed ≡ old.decisions ++ provisional ∷ []
     → after ≡ slice_set pushed (length pushed - 1) (Decision.Granted generation facts line.verdict None refused) → cause ≡ first_cause refused old.cause
     → AsksGrant stands h marks generation config to old (record old { decisions = after; cause = cause })
-asks stands h marks generation config to old line facts said refused why cause pushed after placeholder line' facts' desk why' refused' pushed' after' cause' = record {
+asks stands h marks generation config to old line facts said refused why cause pushed after provisional line' facts' desk why' refused' pushed' after' cause' = record {
   said = said;
   desk = subst (λ (l : GrantLine). Grants stands h marks l said) line' desk;
   state' =
-      (λ i. record old { decisions = last-set old.decisions pushed after placeholder (Decision.Granted generation facts line.verdict None refused) pushed' after' i; cause = cause' i })
+      (λ i. record old { decisions = last-set old.decisions pushed after provisional (Decision.Granted generation facts line.verdict None refused) pushed' after' i; cause = cause' i })
       ∙ (λ i. record old { decisions = old.decisions ++ Decision.Granted generation (facts' i) (line' i).verdict None (is i) ∷ []; cause = first_cause (is i) old.cause });
 }
   where

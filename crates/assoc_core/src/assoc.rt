@@ -1,4 +1,5 @@
-ghost use Rattle.std.specs.Prelude.{◌≡◌};
+ghost use Rattle.std.specs.Prelude.{◌≡◌, None};
+ghost use Rattle.socks_machine.specs.Step.{fresh};
 
 use addr_pattern::Endpoint;
 use conf_text::{List, Text};
@@ -41,7 +42,11 @@ impl<L: Link> Assoc<L> {
         peer: Endpoint,
         local: Endpoint,
         now: u64,
-    ) -> Assoc<L> {
+    ) -> Assoc<L>
+        ensures state { result.state ≡ fresh number peer local now }
+        ensures client { result.client ≡ client }
+        ensures target { result.target ≡ None }
+    {
         let state = Record {
             number,
             peer,

@@ -77,7 +77,7 @@ impl<L: Link + Drop> Assoc<L> {
         Next::Done(self.finish(desk, Cause::ClientGone { at }))
     }
 
-    /// The client says nothing more for now: the greeting is answered.
+    /// The client says nothing more yet: the greeting is answered.
     fn answer<K: DeskCall>(mut self, alloc: Global, desk: &mut K) -> Result<Next<L>, AllocError>
         ensures cap { IfOk result (λ next. K.cap desk.new ≡ K.cap desk.old) }
         ensures turns { IfOk result (λ next. (users : List User) (pubs : List Config) (generation : ℕ) (config : Config) (h : List Line) (marks : List StopBy) (net : NetTold) (now : ℕ) (a : Assoc L) → K.stands desk.old h marks → HasHeard L.told L.counts generation config a self Heard.NotYet → a.state.since ≡ now → Turns L.told L.counts (K.stands desk.new) (context users pubs generation config (K.cap desk.old) h marks) now net net a next) }

@@ -39,19 +39,12 @@ fn causes_of_one_word(rt: HostRuntime) -> Result<(), Fail> {
 }
 
 #[test]
-fn causes_of_the_rules_and_the_desk(rt: HostRuntime) -> Result<(), Fail> {
+fn causes_of_the_rules(rt: HostRuntime) -> Result<(), Fail> {
     let block = Verdict::SocksBlock {
         client: 1,
         socks: 3,
     };
     let none = Verdict::SocksNone { client: 12 };
-    let full = Cause::Full {
-        generation: 2,
-        list: ListKind::Socks,
-        rule: 3,
-        held: 10,
-        limit: 10,
-    };
     for (cause, text) in [
         (
             Cause::ClientBlocked {
@@ -88,6 +81,22 @@ fn causes_of_the_rules_and_the_desk(rt: HostRuntime) -> Result<(), Fail> {
             },
             "denied gen 1 client none socks -",
         ),
+    ] {
+        assert_eq!(rt; cause_of(rt.alloc(), cause)?.as_slice(), text.as_bytes());
+    }
+    Ok(())
+}
+
+#[test]
+fn causes_of_the_desk(rt: HostRuntime) -> Result<(), Fail> {
+    let full = Cause::Full {
+        generation: 2,
+        list: ListKind::Socks,
+        rule: 3,
+        held: 10,
+        limit: 10,
+    };
+    for (cause, text) in [
         (full, "full gen 2 socks 3 held 10 max 10"),
         (
             Cause::Crowded { live: 64, cap: 64 },
@@ -103,7 +112,7 @@ fn causes_of_the_rules_and_the_desk(rt: HostRuntime) -> Result<(), Fail> {
 }
 
 #[test]
-fn causes_of_bytes_and_times(rt: HostRuntime) -> Result<(), Fail> {
+fn causes_of_bytes(rt: HostRuntime) -> Result<(), Fail> {
     for (cause, text) in [
         (
             Cause::BadVersion { at: 0, byte: 22 },
@@ -122,6 +131,15 @@ fn causes_of_bytes_and_times(rt: HostRuntime) -> Result<(), Fail> {
             "atypunsupported at 6 byte 00",
         ),
         (Cause::ClientGone { at: 1000 }, "clientgone at 1000"),
+    ] {
+        assert_eq!(rt; cause_of(rt.alloc(), cause)?.as_slice(), text.as_bytes());
+    }
+    Ok(())
+}
+
+#[test]
+fn causes_of_proxies_and_times(rt: HostRuntime) -> Result<(), Fail> {
+    for (cause, text) in [
         (
             Cause::Upstream {
                 stage: Stage::Method,

@@ -1,0 +1,116 @@
+-- What a turn has read and written, beside what the script says of the outside.
+use Rattle.std.proofs.Common.{ℕ, suc, ◌≡◌, ◌<◌, ◌≤◌, ◌==◌, ◌+◌, ◌-◌, ◌∙◌, sym, ap, subst, refl, Bool, true, false, if◌then◌else◌, Option, Some, None, List, [], ◌∷◌, ◌++◌, length, drop, arith, append-nil, length-append, length-drop}
+use Rattle.addr_pattern.specs.declared.addr.Addr.{Addr}
+use Rattle.addr_pattern.specs.declared.endpoint.Endpoint.{Endpoint}
+use Rattle.conf_model.specs.declared.protocol.Version.{Version}
+use Rattle.conf_model.specs.declared.protocol.Command.{Command}
+use Rattle.conf_model.specs.Handshake.{version_of}
+use Rattle.net_ends.specs.InMemory.{LinkInMemory, NetInMemory, told_of_link, told_of_net}
+use Rattle.net_ends.specs.Told.{Told, Arrival}
+use Rattle.socks_machine.specs.declared.cause.Cause.{Cause}
+use Rattle.socks_machine.specs.declared.record.Chosen.{Chosen}
+use Rattle.std.specs.Int.{w16, to_be_bytes}
+use Rattle.conf_model.specs.Grammar.{spelled_addr}
+use Rattle.socks_machine.specs.Replies.{Answer, answer_to, bytes_of_answer, refusal, granted_reply, method_reply}
+use Rattle.socks_machine.specs.Socks.{chosen_reply, success}
+use Rattle.socks_machine.specs.Script.{Outside}
+use Rattle.assoc_core.specs.Plain.{plain_to_client, plain_to_target, success_reply, payload_to_client, refusal_owed, no_login}
+use Rattle.assoc_core.specs.Turns.{SameOutside, SameTarget}
+use Rattle.replay_run.specs.Mirrors.{TargetIs, TargetMirrors, Quiet}
+
+-- ---- what stays the same
+
+abbrev bytes_of : Option Arrival → List ℕ
+bytes_of None = []
+bytes_of (Some a) = a.bytes
+
+abbrev end_of : Option Arrival → Bool
+end_of None = false
+end_of (Some a) = a.ends
+
+abbrev number_of : Option ℕ → ℕ
+number_of None = 0
+number_of (Some n) = n
+
+pub same-arrived : (l l' : LinkInMemory) → SameOutside (told_of_link l) (told_of_link l') → l'.arrived ≡ l.arrived
+same-arrived l l' h = ap bytes_of h.arrived
+
+pub same-ends : (l l' : LinkInMemory) → SameOutside (told_of_link l) (told_of_link l') → l'.ends ≡ l.ends
+same-ends l l' h = ap end_of h.arrived
+
+pub same-cap : (l l' : LinkInMemory) → SameOutside (told_of_link l) (told_of_link l') → l'.cap ≡ l.cap
+same-cap l l' h = ap number_of h.cap
+
+pub same-target-is : (l l' : LinkInMemory) (o : Outside) → TargetIs l o → SameOutside (told_of_link l) (told_of_link l') → TargetIs l' o
+same-target-is l l' o h k = record {
+  arrived = same-arrived l l' k ∙ h.arrived;
+  ends = same-ends l l' k ∙ h.ends;
+  unfailing = k.unfailing ∙ h.unfailing;
+  cap = subst (λ (n : ℕ). length o.c ≤ n) (sym (same-cap l l' k)) h.cap;
+}
+
+-- the target's link behind a turn
+pub target-behind : (t : Option LinkInMemory) (net : NetInMemory) (o : Outside) (l' : LinkInMemory) → TargetMirrors t net o
+    → SameTarget told_of_link (told_of_net net) t (Some l') → TargetIs l' o
+target-behind None net o l' h k = same-target-is net.link l' o h.0 (k (record { outcome = net.outcome; link = told_of_link net.link }) refl)
+target-behind (Some l) net o l' h k = same-target-is l l' o h k
+
+-- ---- how much is owed at most
+
+chosen-short : (c : Option Chosen) → length (chosen_reply c) ≤ 2
+chosen-short None = omega arith
+chosen-short (Some c) = either (c.method == 255) c.method
+  where
+    either : (b : Bool) (m : ℕ) → length (if b then [] else method_reply m) ≤ 2
+    either true m = omega arith
+    either false m = omega arith
+
+endpoint-short : (a : Addr) (port : ℕ) → length (spelled_addr a ++ to_be_bytes w16 port) ≤ 19
+endpoint-short (Addr.V4 n) port = omega arith
+endpoint-short (Addr.V6 n) port = omega arith
+
+success-short : (v : Option Version) (at : Endpoint) → length (success v Command.Connect at) ≤ 22
+success-short None at = omega arith
+success-short (Some Version.V4) at = omega arith
+success-short (Some Version.V5) at = let h = endpoint-short at.addr at.port in omega arith
+
+abbrev IsShort : Answer → Type 0
+IsShort (Answer.Code c) = Unit {0}
+IsShort (Answer.Bytes bs) = length bs ≤ 10
+IsShort Answer.Silence = Unit {0}
+
+answer-short : (cause : Cause) → IsShort (answer_to no_login cause)
+answer-short Cause.NoMethod = omega arith
+answer-short Cause.LoginFailed = omega arith
+answer-short _ = tt
+
+bytes-short : (v : Option Version) (a : Answer) → IsShort a → length (bytes_of_answer v a) ≤ 10
+bytes-short None a h = omega arith
+bytes-short (Some Version.V4) (Answer.Code c) h = omega arith
+bytes-short (Some Version.V5) (Answer.Code c) h = omega arith
+bytes-short (Some v) (Answer.Bytes bs) h = h
+bytes-short (Some v) Answer.Silence h = omega arith
+
+success-at-short : (c : List ℕ) (at : Option Endpoint) → length (success_reply c at) ≤ 22
+success-at-short c None = omega arith
+success-at-short c (Some at) = success-short (version_of c) at
+
+payload-length : (t : List ℕ) (at : Option Endpoint) → length (payload_to_client t at) ≤ length t
+payload-length t None = omega arith
+payload-length t (Some at) = omega arith
+
+refusal-short : (c : List ℕ) (at : Option Endpoint) (cause : Option Cause) → length (refusal_owed c at cause) ≤ 10
+refusal-short c None None = omega arith
+refusal-short c None (Some cause) = bytes-short (version_of c) (answer_to no_login cause) (answer-short cause)
+refusal-short c (Some at) cause = omega arith
+
+four-lengths : (a b c d : List ℕ) (n : ℕ) → length a ≤ 2 → length b ≤ 22 → length c ≤ n → length d ≤ 10 → length (a ++ (b ++ (c ++ d))) ≤ 34 + n
+four-lengths a b c d n ha hb hc hd = omega (arith, length-append {A = ℕ})
+
+pub owed-c-short : (c t : List ℕ) (chosen : Option Chosen) (at : Option Endpoint) (cause : Option Cause) → length (plain_to_client c t chosen at cause) ≤ 34 + length t
+owed-c-short c t chosen at cause = four-lengths (chosen_reply chosen) (success_reply c at) (payload_to_client t at) (refusal_owed c at cause) (length t)
+    (chosen-short chosen) (success-at-short c at) (payload-length t at) (refusal-short c at cause)
+
+pub owed-t-short : (c : List ℕ) (at : Option Endpoint) → length (plain_to_target c at) ≤ length c
+owed-t-short c None = omega arith
+owed-t-short c (Some at) = omega (arith, length-drop {A = ℕ})

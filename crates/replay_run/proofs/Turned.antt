@@ -1,0 +1,239 @@
+-- The world behind a turn, and that the replay still holds what it is.
+use Rattle.std.proofs.Common.{ℕ, zero, suc, ◌≡◌, ◌≤◌, ◌+◌, ◌∙◌, sym, ap, subst, refl, Bool, true, false, Option, Some, None, is_some, List, [], ◌∷◌, ◌++◌, length, map, arith, slice_set}
+use Rattle.std.specs.Prelude.{slice_get, unwrap_or}
+use Rattle.conf_model.specs.declared.config.Config.{Config}
+use Rattle.net_ends.specs.InMemory.{LinkInMemory, NetInMemory, told_of_link, told_of_net}
+use Rattle.rule_list.specs.Rules.{numbered}
+use Rattle.socks_machine.specs.declared.cause.StopBy.{StopBy}
+use Rattle.socks_machine.specs.declared.lines.Line.{Line}
+use Rattle.socks_machine.specs.declared.record.Record.{Record}
+use Rattle.socks_machine.specs.declared.world.Event.{Event}
+use Rattle.socks_machine.specs.declared.world.TurnEvent.{TurnEvent}
+use Rattle.socks_machine.specs.declared.world.World.{World}
+use Rattle.socks_machine.specs.Calls.{TurnResult}
+use Rattle.socks_machine.specs.History.{last_mark}
+use Rattle.socks_machine.specs.Script.{Outside, Surroundings}
+use Rattle.socks_machine.specs.Step.{step, made, context_of, set_numbered}
+use Rattle.socks_machine.specs.Taking.{◌>>=◌}
+use Rattle.socks_machine.specs.Turn.{turn}
+use Rattle.assoc_core.specs.declared.assoc.Assoc.{Assoc}
+use Rattle.assoc_core.specs.declared.assoc.Next.{Next}
+use Rattle.assoc_core.specs.Turns.{Turns, event_of, mark_of, left_of, context}
+use Rattle.replay_run.specs.declared.slot.Slot.{Slot}
+use Rattle.addr_pattern.specs.declared.endpoint.Endpoint.{Endpoint}
+use Rattle.net_ends.specs.Nets.{NetTold, Plan}
+use Rattle.socks_machine.specs.declared.world.Outer.{Outer}
+use Rattle.socks_machine.specs.Calls.{Context}
+use Rattle.socks_machine.specs.Decisions.{reached_at}
+use Rattle.assoc_core.specs.Plain.{IsPlainRecord}
+use Rattle.assoc_core.specs.Stands.{Stands, Holds, HoldsTarget}
+use Rattle.assoc_core.specs.Turns.{PlanStays, SameTarget, outer_of}
+use Rattle.replay_run.specs.Mirrors.{Mirrors, AreSlots, IsGoing, IsSlot, TargetIs, TargetMirrors, record_of, published, seen_by_workers}
+use Rattle.replay_run.specs.Taken.{slot_of}
+use Rattle.replay_run.proofs.Outsides.{same-arrived, same-ends, same-cap, same-target-is, target-behind}
+use Rattle.socks_machine.specs.Follows.{IsTurnOf, used_up}
+use Rattle.socks_machine.specs.Transcript.{event_line, turn_line}
+use Rattle.replay_run.proofs.Allowing.{allows}
+use Rattle.replay_run.proofs.Slots.{map-set-at, get-map-at, get-set-at, slot-at, slots-set, set-same, nothing-used}
+
+-- a turn is made in the generation that was seen, on the record of its number
+turn-steps : (w : World) (config : Config) (a : Assoc LinkInMemory) (slots : List Slot) (net net' : NetInMemory) (next : Next LinkInMemory) (stands' : List Line → List StopBy → Type 0) (k : ℕ)
+    → w.pubs ≡ published (Some config) → w.seen ≡ seen_by_workers true → w.records ≡ map record_of slots → slice_get slots k ≡ Some (Slot.Going a net) → a.state.number ≡ suc k
+    → (t : Turns told_of_link (λ (l : LinkInMemory). l.counts) stands' (context w.users w.pubs 1 config w.cap w.h w.marks) 0 (told_of_net net) (told_of_net net') a next)
+    → step w (Event.Turn (event_of 1 a.state.number 0 t.acts (mark_of next))) ≡ Some (made w a.state.number t.result)
+turn-steps w config a slots net net' next stands' k pubs seen records at number t =
+    ap (λ (x : Option ℕ). x >>= λ g. numbered w.pubs g >>= λ c. numbered w.records a.state.number >>= λ r. turn (context_of w g c) ev r >>= λ m. Some (made w a.state.number m)) (ap (λ (z : List ℕ). slice_get z 1) seen)
+    ∙ (ap (λ (x : Option Config). x >>= λ c. numbered w.records a.state.number >>= λ r. turn (context_of w 1 c) ev r >>= λ m. Some (made w a.state.number m)) (ap (λ (z : List Config). numbered z 1) pubs)
+    ∙ (ap (λ (x : Option Record). x >>= λ r. turn (context_of w 1 config) ev r >>= λ m. Some (made w a.state.number m)) found
+    ∙ ap (λ (x : Option TurnResult). x >>= λ m. Some (made w a.state.number m)) (t.lawful 1)))
+  where
+    ev : TurnEvent
+    ev = event_of 1 a.state.number 0 t.acts (mark_of next)
+
+    found : numbered w.records a.state.number ≡ Some a.state
+    found = ap (numbered w.records) number ∙ (ap (λ (z : List Record). slice_get z k) records ∙ get-map-at record_of slots k (Slot.Going a net) at)
+
+slot-record : (next : Next LinkInMemory) (net : NetInMemory) → record_of (slot_of next net) ≡ (left_of next).state
+slot-record (Next.Wait a) net = refl
+slot-record (Next.Again a) net = refl
+slot-record (Next.Done e) net = refl
+
+numbered-set : (w : World) (k : ℕ) (r : TurnResult) (old : Record) (n : ℕ) → n ≡ suc k → slice_get w.records k ≡ Some old → numbered (made w n r).records n ≡ Some r.left
+numbered-set w k r old n number at = subst (λ (m : ℕ). numbered (made w m r).records m ≡ Some r.left) (sym number) (get-set-at w.records k old r.left at)
+
+-- ---- the association still stands beside its outside
+
+plan-same : (net net' : NetInMemory) (o : Outside) → TargetIs net.link o × (outer_of net.outcome ≡ o.dial) → (told_of_net net').plan ≡ (told_of_net net).plan
+    → TargetIs net'.link o × (outer_of net'.outcome ≡ o.dial)
+plan-same net net' o h same = (
+  same-target-is net.link net'.link o h.0 (record {
+    arrived = ap (λ (p : Option Plan). elim p [ Some x ↦ x.link.arrived | None ↦ None ]) same;
+    cap = ap (λ (p : Option Plan). elim p [ Some x ↦ x.link.cap | None ↦ None ]) same;
+    unfailing = ap (λ (p : Option Plan). elim p [ Some x ↦ x.link.unfailing | None ↦ false ]) same;
+  }),
+  ap (λ (p : Option Plan). elim p [ Some x ↦ outer_of x.outcome | None ↦ o.dial ]) same ∙ h.1,
+)
+
+plan-stays : (net net' : NetTold) (outer : Outer) (there : Bool) → there ≡ false → PlanStays net net' outer there → net'.plan ≡ net.plan
+plan-stays net net' (Outer.Up at) true none h = cc
+plan-stays net net' (Outer.Up at) false none h = cc
+plan-stays net net' Outer.Nothing there none h = h
+plan-stays net net' (Outer.Desk logged) there none h = h
+plan-stays net net' (Outer.Looked found) there none h = h
+plan-stays net net' Outer.Refused there none h = h
+plan-stays net net' Outer.HostUnreachable there none h = h
+plan-stays net net' Outer.NetUnreachable there none h = h
+plan-stays net net' Outer.Failed there none h = h
+
+target-still : (t t' : Option LinkInMemory) (net net' : NetInMemory) (o : Outside) (r : Record) (outer : Outer) → TargetMirrors t net o → SameTarget told_of_link (told_of_net net) t t'
+    → HoldsTarget told_of_link r t' → PlanStays (told_of_net net) (told_of_net net') outer (is_some (reached_at r.decisions)) → TargetMirrors t' net' o
+target-still None None net net' o r outer h same holds plan =
+    plan-same net net' o h (plan-stays (told_of_net net) (told_of_net net') outer (is_some (reached_at r.decisions)) (ap (λ (x : Option Endpoint). is_some x) holds.0) plan)
+target-still (Some l) None net net' o r outer h same holds plan = absurd same
+target-still t (Some l') net net' o r outer h same holds plan = target-behind t net o l' h same
+
+-- an association that goes on
+still-going : (n : ℕ) (a a' : Assoc LinkInMemory) (net net' : NetInMemory) (o : Outside) (next : Next LinkInMemory) (s : Context) (stands' : List Line → List StopBy → Type 0)
+    → IsGoing n a net o → (t : Turns told_of_link (λ (l : LinkInMemory). l.counts) stands' s 0 (told_of_net net) (told_of_net net') a next) → left_of next ≡ a' → IsPlainRecord a'.state
+    → IsGoing n a' net' o
+still-going n a a' net net' o next s stands' h t is plain = subst (λ (z : Assoc LinkInMemory). IsGoing n z net' o) is (record {
+  number' = ap (λ (r : Record). r.number) t.state' ∙ (t.number ∙ h.number');
+  since = ap (λ (r : Record). r.since) t.state' ∙ (t.since ∙ h.since);
+  stands = record {
+    plain = subst (λ (z : Assoc LinkInMemory). IsPlainRecord z.state) (sym is) plain;
+    client = subst (λ (r : Record). Holds (told_of_link (left_of next).client) r.c r.sent_c r.end_c r.shut_c) (sym t.state') t.client;
+    client_ends = t.client_ends;
+    client_first = t.client_first;
+    target = subst (λ (r : Record). HoldsTarget told_of_link r (left_of next).target) (sym t.state') t.target;
+  };
+  arrived = same-arrived a.client (left_of next).client t.same_client ∙ h.arrived;
+  ends = same-ends a.client (left_of next).client t.same_client ∙ h.ends;
+  unfailing = t.same_client.unfailing ∙ h.unfailing;
+  cap = subst (λ (m : ℕ). 64 ≤ m) (sym (same-cap a.client (left_of next).client t.same_client)) h.cap;
+  served = h.served;
+  target = target-still a.target (left_of next).target net net' o t.result.left t.acts.outer h.target t.same_target t.target t.plan';
+  quiet = h.quiet;
+})
+
+slot-still : (n : ℕ) (a : Assoc LinkInMemory) (net net' : NetInMemory) (o : Outside) (next : Next LinkInMemory) (s : Context) (stands' : List Line → List StopBy → Type 0)
+    → IsGoing n a net o → (t : Turns told_of_link (λ (l : LinkInMemory). l.counts) stands' s 0 (told_of_net net) (told_of_net net') a next) → IsSlot n (slot_of next net') o
+slot-still n a net net' o (Next.Wait a') s stands' h t = still-going n a a' net net' o (Next.Wait a') s stands' h t refl t.goes_on
+slot-still n a net net' o (Next.Again a') s stands' h t = still-going n a a' net net' o (Next.Again a') s stands' h t refl t.goes_on
+slot-still n a net net' o (Next.Done e) s stands' h t = t.goes_on.0
+
+-- ---- the whole
+
+-- the turn of the association at this place: its event, the world behind it, and that the replay holds what that is
+pub record IsTurned (s : Surroundings) (w : World) (config : Config) (slots : List Slot) (k : ℕ) (ev : TurnEvent) (slot : Slot) (left : Record)
+    (stands' : List Line → List StopBy → Type 0) (cap : ℕ) : Type 0 where
+  pub new : World
+  pub is_turn : IsTurnOf s w 1 (suc k) ev []
+  pub stepped : step w (Event.Turn ev) ≡ Some new
+  pub used : used_up s ev [] ≡ s
+  pub mirrors : Mirrors stands' cap s new (Some config) true (slice_set slots k slot)
+  pub line' : event_line new (Event.Turn ev) ≡ turn_line 1 ev (Some left)
+  pub others : (j : ℕ) → (j ≡ k → ⊥) → slice_get new.records j ≡ slice_get w.records j
+
+other-places : {A : Type 0} (xs : List A) (k j : ℕ) (x : A) → (j ≡ k → ⊥) → slice_get (slice_set xs k x) j ≡ slice_get xs j
+other-places [] k j x h = refl
+other-places (y ∷ ys) zero zero x h = absurd (h refl)
+other-places (y ∷ ys) zero (suc j) x h = refl
+other-places (y ∷ ys) (suc k) zero x h = refl
+other-places (y ∷ ys) (suc k) (suc j) x h = other-places ys k j x (λ e. h (ap (λ (n : ℕ). suc n) e))
+
+pub turned : (s : Surroundings) (w : World) (config : Config) (slots : List Slot) (k : ℕ) (a : Assoc LinkInMemory) (net net' : NetInMemory) (next : Next LinkInMemory)
+    (stands stands' : List Line → List StopBy → Type 0) (cap : ℕ)
+    → Mirrors stands cap s w (Some config) true slots → slice_get slots k ≡ Some (Slot.Going a net)
+    → (t : Turns told_of_link (λ (l : LinkInMemory). l.counts) stands' (context w.users w.pubs 1 config w.cap w.h w.marks) 0 (told_of_net net) (told_of_net net') a next)
+    → last_mark (t.result).marks ≡ None
+    → IsTurned s w config slots k (event_of 1 a.state.number 0 t.acts (mark_of next)) (slot_of next net') (t.result).left stands' cap
+turned s w config slots k a net net' next stands stands' cap m at t mark = record {
+  new = new;
+  is_turn = record {
+    worker' = refl;
+    number = number;
+    generation = 1;
+    saw = saw;
+    config = config;
+    published = shown;
+    outside = o;
+    there = found.1;
+    begun = a.state;
+    stood = stood;
+    allowed = allows (record {
+      s = s;
+      w = w;
+      new = new;
+      config = config;
+      n = suc k;
+      a = a;
+      net = net;
+      net' = net';
+      o = o;
+      next = next;
+      stands' = stands';
+      now = m.now;
+      marks = m.marks;
+      going = going;
+      turns = t;
+      stepped = stepped;
+      behind' = behind;
+    });
+  };
+  stepped = stepped;
+  used = nothing-used s ev k o number found.1 refl going.quiet.faults;
+  mirrors = record {
+    now = m.now;
+    users = m.users;
+    pubs = m.pubs;
+    seen' = m.seen';
+    records = ap (λ n. set_numbered w.records n (t.result).left) number
+        ∙ (ap (λ (rs : List Record). slice_set rs k (t.result).left) m.records
+        ∙ (ap (λ (r : Record). slice_set (map record_of slots) k r) (sym (slot-record next net' ∙ t.state'))
+        ∙ sym (map-set-at record_of slots k (slot_of next net'))));
+    slots' = subst (λ (os : List Outside). AreSlots 1 (slice_set slots k (slot_of next net')) os) (set-same s.outsides k o found.1)
+        (slots-set 1 slots s.outsides k (slot_of next net') o m.slots' (slot-still (1 + k) a net net' o next _ stands' found.2 t));
+    desk = t.desk;
+    cap' = m.cap';
+    marks = mark;
+  };
+  line' = ap (λ (x : Option Record). turn_line (unwrap_or (slice_get w.seen 1) 0) ev x) behind
+      ∙ ap (λ (x : Option ℕ). turn_line (unwrap_or x 0) ev (Some (t.result).left)) saw;
+  others = λ j h. ap (λ n. slice_get (set_numbered w.records n (t.result).left) j) number ∙ other-places w.records k j (t.result).left h;
+}
+  where
+    ev : TurnEvent
+    ev = event_of 1 a.state.number 0 t.acts (mark_of next)
+
+    new : World
+    new = made w a.state.number t.result
+
+    found : (o : Outside) × (slice_get s.outsides k ≡ Some o) × IsSlot (1 + k) (Slot.Going a net) o
+    found = slot-at 1 slots s.outsides k (Slot.Going a net) m.slots' at
+
+    o : Outside
+    o = found.0
+
+    going : IsGoing (suc k) a net o
+    going = subst (λ (n : ℕ). IsGoing n a net o) (omega arith) found.2
+
+    number : a.state.number ≡ suc k
+    number = going.number'
+
+    saw : slice_get w.seen 1 ≡ Some 1
+    saw = ap (λ (z : List ℕ). slice_get z 1) m.seen'
+
+    shown : numbered w.pubs 1 ≡ Some config
+    shown = ap (λ (z : List Config). numbered z 1) m.pubs
+
+    stood' : slice_get w.records k ≡ Some a.state
+    stood' = ap (λ (z : List Record). slice_get z k) m.records ∙ get-map-at record_of slots k (Slot.Going a net) at
+
+    stood : numbered w.records (suc k) ≡ Some a.state
+    stood = stood'
+
+    stepped : step w (Event.Turn ev) ≡ Some new
+    stepped = turn-steps w config a slots net net' next stands' k m.pubs m.seen' m.records at number t
+
+    behind : numbered new.records a.state.number ≡ Some (t.result).left
+    behind = numbered-set w k t.result a.state a.state.number number stood'
