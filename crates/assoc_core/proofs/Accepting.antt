@@ -17,7 +17,7 @@ use Rattle.socks_machine.specs.declared.world.NextMark.{NextMark}
 use Rattle.socks_machine.specs.declared.world.Outer.{Outer}
 use Rattle.socks_machine.specs.declared.world.TurnEvent.{TurnEvent}
 use Rattle.session_desk.specs.Calls.{Opens}
-use Rattle.socks_machine.specs.Calls.{Context, TurnResult, open_line, refusal_said, blocked_client, decided}
+use Rattle.socks_machine.specs.Calls.{Context, TurnResult, refusal_said, blocked_client, decided}
 use Rattle.socks_machine.specs.Decisions.{reached_at}
 use Rattle.socks_machine.specs.History.{Desked, at_open}
 use Rattle.socks_machine.specs.Settle.{first_cause}
@@ -27,8 +27,8 @@ use Rattle.assoc_core.specs.declared.assoc.Assoc.{Assoc}
 use Rattle.assoc_core.specs.declared.assoc.Ended.{Ended}
 use Rattle.assoc_core.specs.declared.assoc.Next.{Next}
 use Rattle.assoc_core.specs.Lines.{client_line}
-use Rattle.assoc_core.specs.Plain.{IsPlainRecord, HasDecided, owed_c, owed_t}
-use Rattle.assoc_core.specs.Stands.{Stands, Holds, HoldsTarget}
+use Rattle.assoc_core.specs.Plain.{HasDecided, owed_c, owed_t}
+use Rattle.assoc_core.specs.Stands.{Stands, HoldsTarget}
 use Rattle.assoc_core.specs.Turns.{Turns, Acts, event_of, context, StopsReading}
 use Rattle.assoc_core.proofs.StandsLaws.{no_acts, target-same, same-outside, same-target}
 

@@ -1,7 +1,6 @@
 -- The turns in which a client is answered, and has nothing more to say yet.
-use Rattle.std.proofs.Common.{◌≡◌, ℕ, ◌<◌, ◌≤◌, ◌-◌, Bool, true, false, ◌&&◌, ◌||◌, not, ◌==◌, nat_le, Option, Some, None, List, [], ◌∷◌, ◌++◌, length, drop, refl, sym, ap, subst, ◌∙◌, inl, inr, append_assoc, arith}
+use Rattle.std.proofs.Common.{◌≡◌, ℕ, ◌<◌, ◌-◌, Bool, true, false, ◌&&◌, ◌||◌, not, ◌==◌, nat_le, Some, None, List, [], ◌∷◌, ◌++◌, length, drop, refl, sym, ap, subst, ◌∙◌, inr, append_assoc, arith}
 use Rattle.std.proofs.lemmas.Bool.{lt-leb}
-use Rattle.std.proofs.lemmas.List.{append-nil}
 use Rattle.std.proofs.Math.Seq.{drop-append_seam}
 use mathlib.Core.List.{IsPrefix}
 use Rattle.conf_model.specs.declared.config.Config.{Config}
@@ -20,10 +19,10 @@ use Rattle.socks_machine.specs.Calls.{keep, is_calling}
 use Rattle.socks_machine.specs.InTurn.{Reading, Takes}
 use Rattle.socks_machine.specs.Owed.{owed_to_client, pending_to_client}
 use Rattle.socks_machine.specs.Phase.{Phase, phase, is_udp}
-use Rattle.socks_machine.specs.Settle.{is_nothing, fix}
+use Rattle.socks_machine.specs.Settle.{is_nothing}
 use Rattle.socks_machine.specs.Socks.{chosen_reply}
 use Rattle.socks_machine.specs.Taking.{reads_target, holds}
-use Rattle.socks_machine.specs.Turn.{turn, quantum, marked, took_quantum, rests, rests_in, is_late, reads_in, has_pending, may_be_shut, may_write}
+use Rattle.socks_machine.specs.Turn.{turn, quantum, marked, took_quantum, rests, rests_in, reads_in, has_pending, may_be_shut, may_write}
 use Rattle.socks_machine.proofs.ActLaws.{still-open}
 use Rattle.socks_machine.proofs.WaitLaws.{waits}
 use Rattle.assoc_core.specs.declared.assoc.Assoc.{Assoc}
@@ -32,17 +31,17 @@ use Rattle.assoc_core.specs.declared.assoc.Next.{Next}
 use Rattle.assoc_core.specs.declared.hear.Heard.{Heard}
 use Rattle.assoc_core.specs.declared.send.Sent.{Sent}
 use Rattle.assoc_core.specs.Closing.{Closed}
-use Rattle.assoc_core.specs.Hearing.{HasHeard, Hears, is_decided}
+use Rattle.assoc_core.specs.Hearing.{HasHeard, is_decided}
 use Rattle.assoc_core.specs.Plain.{IsPlainRecord, owed_c}
 use Rattle.assoc_core.specs.Sending.{Sends, SendEnds}
-use Rattle.assoc_core.specs.Stands.{Stands, GivesFirst}
+use Rattle.assoc_core.specs.Stands.{GivesFirst}
 use Rattle.assoc_core.specs.Turns.{Turns, StopsReading, links, context, IsIdle, IsFull}
 use Rattle.assoc_core.proofs.LinksHeld.{short}
 use Rattle.assoc_core.proofs.Sendings.{rose-before, rose-after}
 use Rattle.assoc_core.proofs.PlainRecords.{and-false}
-use Rattle.assoc_core.proofs.Talking.{Hearing, Party, heard_takings, basis_of, context_of, before, heard, answered, takes-open, settled-undecided, heard-nothing, heard-unwhole, phase-undecided}
-use Rattle.assoc_core.proofs.TalkTurns.{Talked, turns-talked, talk_acts, talk_event, heard_told, with_state}
-use Rattle.assoc_core.proofs.TalkCloses.{ClosesTalk, turns-closed, caused, talk-stages}
+use Rattle.assoc_core.proofs.Talking.{Hearing, heard_takings, basis_of, context_of, before, heard, answered, takes-open, settled-undecided, heard-nothing, heard-unwhole, phase-undecided}
+use Rattle.assoc_core.proofs.TalkTurns.{turns-talked, talk_acts, talk_event, heard_told}
+use Rattle.assoc_core.proofs.TalkCloses.{turns-closed, caused, talk-stages}
 use Rattle.assoc_core.proofs.HeardTurns.{hearing_of, behind-is, stands-before, turns-before, owes-caused, owes-fault, plain-caused, first-sent, short-heard}
 
 -- ---- what was sent

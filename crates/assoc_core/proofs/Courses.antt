@@ -1,5 +1,5 @@
 -- What a record of the first path without a cause has decided, by how far it has come.
-use Rattle.std.proofs.Common.{ℕ, ◌≡◌, refl, Bool, true, false, Option, Some, None, is_some, List, [], ◌∷◌, ap, sym, subst, Result, Ok, Err, IfOk}
+use Rattle.std.proofs.Common.{ℕ, ◌≡◌, refl, true, Option, Some, None, is_some, List, [], ◌∷◌, sym, subst, Result, Ok, Err, IfOk}
 use Rattle.addr_pattern.specs.declared.endpoint.Endpoint.{Endpoint}
 use Rattle.rule_list.specs.declared.facts.Facts.{Facts}
 use Rattle.rule_list.specs.declared.verdict.Verdict.{Verdict}
@@ -17,7 +17,7 @@ use Rattle.socks_machine.specs.declared.lines.Line.{Line}
 use Rattle.socks_machine.specs.Calls.{Context}
 use Rattle.assoc_core.specs.declared.assoc.Assoc.{Assoc}
 use Rattle.assoc_core.specs.declared.assoc.Next.{Next}
-use Rattle.assoc_core.specs.Plain.{HasDecided, Judged, Dialled}
+use Rattle.assoc_core.specs.Plain.{HasDecided}
 use Rattle.assoc_core.specs.Reaching.{SameDesk}
 use Rattle.assoc_core.specs.Turns.{Turns}
 
@@ -66,17 +66,14 @@ at-relay r (d ∷ e ∷ f ∷ ds) h k c = absurd h
 
 -- ---- how the phases' answers are those of a turn
 
-pub some-cause : (k : Option Cause) → is_some k ≡ true → (cause : Cause) × (k ≡ Some cause)
-some-cause None h = cc
-some-cause (Some cause) h = (cause, refl)
-
-pub no-cause : (k : Option Cause) → is_some k ≡ false → k ≡ None
-no-cause None h = refl
-no-cause (Some cause) h = cc
-
 pub if-ok : {T E : Type 0} (r : Result T E) (P Q : T → Type 0) → ((v : T) → P v → Q v) → IfOk r P → IfOk r Q
 if-ok (Ok v) P Q f h = f v h
 if-ok (Err e) P Q f h = tt
+
+-- a fact of no answer in particular
+pub if-ok-same : {T E : Type 0} (r : Result T E) (P : Type 0) → P → IfOk r (λ v. P)
+if-ok-same (Ok v) P h = h
+if-ok-same (Err e) P h = tt
 
 -- a turn that asks the desk nothing, over a desk that stands for the history
 pub over-desk : {L : Type 0} (told : L → Told) (counts : L → Counts) (stands : List Line → List StopBy → Type 0) (h : List Line) (marks : List StopBy) (s : Context)

@@ -1,6 +1,5 @@
 -- The turn in which a request is whole: it is granted or refused, and the client is written to.
-use Rattle.std.proofs.Common.{◌≡◌, ℕ, ◌<◌, ◌≤◌, ◌-◌, Bool, true, false, ◌&&◌, ◌||◌, not, if◌then◌else◌, Option, Some, None, List, [], ◌∷◌, ◌++◌, length, drop, slice_set, refl, sym, ap, subst, ◌∙◌, inl, inr, is_some, length-append, arith}
-use Rattle.std.proofs.lemmas.List.{append-nil}
+use Rattle.std.proofs.Common.{◌≡◌, ℕ, ◌<◌, ◌-◌, Bool, true, false, ◌&&◌, ◌||◌, not, if◌then◌else◌, Option, Some, None, List, [], ◌∷◌, ◌++◌, length, drop, slice_set, refl, sym, ap, subst, ◌∙◌, inr, is_some, length-append, arith}
 use Rattle.std.proofs.Math.Seq.{set-append_seam}
 use mathlib.Core.List.{IsPrefix}
 use Rattle.addr_pattern.specs.declared.endpoint.Endpoint.{Endpoint}
@@ -10,7 +9,7 @@ use Rattle.conf_model.specs.declared.user.User.{User}
 use Rattle.conf_model.specs.Handshake.{version_of}
 use Rattle.net_ends.specs.Counts.{Counts, Rose}
 use Rattle.net_ends.specs.Nets.{NetTold}
-use Rattle.net_ends.specs.Told.{Told, more}
+use Rattle.net_ends.specs.Told.{Told}
 use Rattle.rule_list.specs.declared.facts.Facts.{Facts}
 use Rattle.rule_list.specs.Rules.{route_of, first, route_matches}
 use Rattle.session_desk.specs.Calls.{Grants}
@@ -28,12 +27,12 @@ use Rattle.socks_machine.specs.declared.world.TurnEvent.{TurnEvent}
 use Rattle.socks_machine.specs.Calls.{TurnResult, decided, call_grant, refusal_full, blocked}
 use Rattle.socks_machine.specs.Datagrams.{owed_datagrams}
 use Rattle.socks_machine.specs.History.{at_grant}
-use Rattle.socks_machine.specs.InTurn.{InTurn, Called, Takes}
+use Rattle.socks_machine.specs.InTurn.{Called, Takes}
 use Rattle.socks_machine.specs.Owed.{owed_to_client, owed_to_target}
-use Rattle.socks_machine.specs.Phase.{Phase, phase}
+use Rattle.socks_machine.specs.Phase.{phase}
 use Rattle.socks_machine.specs.Replies.{refusal}
-use Rattle.socks_machine.specs.Served.{is_served_input, is_whole_input}
-use Rattle.socks_machine.specs.Settle.{is_nothing, fix, first_cause}
+use Rattle.socks_machine.specs.Served.{is_whole_input}
+use Rattle.socks_machine.specs.Settle.{is_nothing, first_cause}
 use Rattle.socks_machine.specs.Socks.{chosen_reply}
 use Rattle.socks_machine.specs.Taking.{reads_client, reads_target}
 use Rattle.socks_machine.specs.Turn.{turn, marked, reads_in, has_pending, may_be_shut, may_write, fault_fits, with_fault}
@@ -42,7 +41,7 @@ use Rattle.assoc_core.specs.declared.assoc.Assoc.{Assoc}
 use Rattle.assoc_core.specs.declared.assoc.Next.{Next}
 use Rattle.assoc_core.specs.declared.hear.Heard.{Heard}
 use Rattle.assoc_core.specs.declared.send.Sent.{Sent}
-use Rattle.assoc_core.specs.Granting.{AsksGrant, connect_facts, request_line, verdict_on, judged}
+use Rattle.assoc_core.specs.Granting.{AsksGrant, connect_facts, request_line, verdict_on}
 use Rattle.assoc_core.specs.Hearing.{HasHeard}
 use Rattle.assoc_core.specs.Plain.{IsPlainRecord, owed_c, refusal_owed, no_login}
 use Rattle.assoc_core.specs.Preludes.{IsConnect}
@@ -55,8 +54,8 @@ use Rattle.assoc_core.proofs.LinksHeld.{short}
 use Rattle.assoc_core.proofs.PlainRecords.{and-false, plain-owes-client, request_to}
 use Rattle.assoc_core.proofs.Sendings.{rose-before}
 use Rattle.assoc_core.proofs.TalkCloses.{sends}
-use Rattle.assoc_core.proofs.Talking.{Hearing, Party, talker, basis_of, context_of, before, heard, heard_takings, answered, let_in, has-answered, takes-open, settled-whole, heard-nothing, phase-whole}
-use Rattle.assoc_core.proofs.TalkTurns.{Talked, turns-talked, talk_acts, talk_event, heard_told, with_state}
+use Rattle.assoc_core.proofs.Talking.{Hearing, talker, basis_of, context_of, before, heard, heard_takings, answered, let_in, has-answered, takes-open, settled-whole, heard-nothing, phase-whole}
+use Rattle.assoc_core.proofs.TalkTurns.{turns-talked, talk_acts, talk_event}
 
 -- ---- as the code asks
 

@@ -1,15 +1,14 @@
 -- What was heard of a client, as a turn that talks with it.
-use Rattle.std.proofs.Common.{◌≡◌, ℕ, zero, suc, ◌<◌, ◌≤◌, Bool, true, false, ◌&&◌, ◌||◌, not, ◌==◌, if◌then◌else◌, Option, Some, None, List, [], ◌∷◌, ◌++◌, length, drop, refl, sym, ap, subst, ◌∙◌, inl, inr, is_some, is_none, append_assoc, length-append, arith}
+use Rattle.std.proofs.Common.{◌≡◌, ℕ, zero, suc, ◌<◌, Bool, true, false, ◌&&◌, ◌||◌, ◌==◌, if◌then◌else◌, Option, Some, None, List, [], ◌∷◌, ◌++◌, length, drop, nat_le, refl, sym, ap, subst, ◌∙◌, inl, inr, append_assoc, length-append, arith}
 use Rattle.std.proofs.lemmas.List.{append-nil}
-use Rattle.std.proofs.Math.Seq.{drop-append_seam}
 use mathlib.Core.List.{IsPrefix}
 use Rattle.conf_model.specs.declared.config.Config.{Config}
 use Rattle.conf_model.specs.declared.protocol.Version.{Version}
 use Rattle.conf_model.specs.declared.user.User.{User}
 use Rattle.conf_model.specs.Handshake.{version_of}
-use Rattle.net_ends.specs.Counts.{Counts, Rose}
+use Rattle.net_ends.specs.Counts.{Counts}
 use Rattle.net_ends.specs.Nets.{NetTold}
-use Rattle.net_ends.specs.Told.{Told, Arrival, more}
+use Rattle.net_ends.specs.Told.{Told, more}
 use Rattle.socks_machine.specs.declared.cause.Cause.{Cause}
 use Rattle.socks_machine.specs.declared.cause.StopBy.{StopBy}
 use Rattle.socks_machine.specs.declared.lines.Line.{Line}
@@ -18,31 +17,31 @@ use Rattle.socks_machine.specs.declared.record.Decision.{Decision}
 use Rattle.socks_machine.specs.declared.record.Record.{Record}
 use Rattle.socks_machine.specs.declared.world.Object.{Object}
 use Rattle.socks_machine.specs.Calls.{is_calling}
-use Rattle.socks_machine.specs.Owed.{owed_to_client, pending_to_client}
+use Rattle.socks_machine.specs.Owed.{owed_to_client}
 use Rattle.socks_machine.specs.Phase.{Phase, phase, is_udp}
 use Rattle.socks_machine.specs.Replies.{refusal}
-use Rattle.socks_machine.specs.Served.{is_served_input, is_whole_input}
-use Rattle.socks_machine.specs.Settle.{is_nothing, fix}
+use Rattle.socks_machine.specs.Served.{agrees, served_prelude, is_served_input, is_whole_input}
+use Rattle.socks_machine.specs.Settle.{is_nothing}
 use Rattle.socks_machine.specs.Socks.{chosen_reply}
 use Rattle.socks_machine.specs.Taking.{reads_client, reads_target}
-use Rattle.socks_machine.specs.Turn.{quantum, reads_in, may_be_shut, has_pending, may_write, is_quiet, rests, is_late}
+use Rattle.socks_machine.specs.Turn.{quantum, reads_in, may_be_shut, has_pending}
 use Rattle.assoc_core.specs.declared.assoc.Assoc.{Assoc}
 use Rattle.assoc_core.specs.declared.assoc.Ended.{Ended}
 use Rattle.assoc_core.specs.declared.assoc.Next.{Next}
 use Rattle.assoc_core.specs.declared.hear.Heard.{Heard}
 use Rattle.assoc_core.specs.Closing.{Closed}
 use Rattle.assoc_core.specs.Hearing.{HasHeard, is_decided, chosen_as}
-use Rattle.assoc_core.specs.Plain.{IsPlainRecord, HasChosen, HasDecided, Talking, owed_c, owed_t, refusal_owed, no_login, is_greeted}
-use Rattle.assoc_core.specs.Preludes.{IsConnect, IsOther}
+use Rattle.assoc_core.specs.Plain.{IsPlainRecord, HasChosen, HasDecided, Talking, owed_c, refusal_owed, no_login, is_greeted}
+use Rattle.assoc_core.specs.Preludes.{IsOther}
 use Rattle.assoc_core.specs.Stands.{Stands, TellsServed, Holds, GivesFirst}
-use Rattle.assoc_core.specs.Turns.{Turns, StopsReading, links, context}
+use Rattle.assoc_core.specs.Turns.{Turns, StopsReading, context}
 use Rattle.assoc_core.proofs.Hearings.{undecided-short}
 use Rattle.assoc_core.proofs.PlainRecords.{plain-owes-client, closing-phase}
 use Rattle.assoc_core.proofs.Sendings.{more-nil}
-use Rattle.assoc_core.proofs.ServedInput.{served-first}
-use Rattle.assoc_core.proofs.Talking.{Hearing, Party, talker, basis_of, context_of, before, heard, gone, bad_version, heard_takings, answered, let_in, has-answered, takes-open, takes-end, settled-undecided, settled-other, heard-nothing, heard-unwhole, phase-undecided}
+use Rattle.assoc_core.proofs.ServedInput.{both-true, served-first}
+use Rattle.assoc_core.proofs.Talking.{Hearing, basis_of, context_of, before, heard, gone, bad_version, answered, has-answered, takes-open, takes-end, settled-undecided, settled-other, heard-nothing, phase-undecided}
 use Rattle.assoc_core.proofs.TalkTurns.{heard_told, with_state}
-use Rattle.assoc_core.proofs.TalkCloses.{ClosesTalk, turns-closed, caused}
+use Rattle.assoc_core.proofs.TalkCloses.{turns-closed, caused}
 
 -- ---- from what was heard
 
@@ -290,6 +289,29 @@ reads-fail told counts stands users pubs generation config most h marks now net 
 
     clash : (told a.client).unfailing ≡ true → (told b.client).unfailing ≡ false → ⊥
     clash e1 e2 = let e3 : (told b.client).unfailing ≡ (told a.client).unfailing = ap (λ (z : Told). z.unfailing) (k.hears).told' in cc
+
+-- ---- a served prelude is whole once it is decided
+
+decided-whole : (c : List ℕ) → is_served_input c ≡ true → is_decided c ≡ true → is_whole_input c ≡ true
+decided-whole [] served h = absurd (cc)
+decided-whole (b ∷ bs) served h = by (b == 4) (b == 5) refl refl served h
+  where
+    by : (four five : Bool) → b == 4 ≡ four → b == 5 ≡ five → (if four then false else (if five then agrees served_prelude (b ∷ bs) else true)) ≡ true
+        → (if five then nat_le 13 (length (b ∷ bs)) else true) ≡ true → is_whole_input (b ∷ bs) ≡ true
+    by true five e4 e5 s k = absurd (cc)
+    by false true e4 e5 s k = rw (e4, e5) (both-true (agrees served_prelude (b ∷ bs)) (nat_le 13 (length (b ∷ bs))) s k)
+    by false false e4 e5 s k = rw (e4, e5) refl
+
+pub never-more : {L : Type 0} (told : L → Told) (counts : L → Counts) (generation : ℕ) (config : Config) (a b : Assoc L) → HasHeard told counts generation config a b Heard.Decided
+    → (is_served_input (b.state).c ≡ true → is_whole_input (b.state).c ≡ false) → ⊥
+never-more told counts generation config a b k unwhole = clash (is_whole_input (b.state).c) (decided-whole (b.state).c served (k.hears).decided') (unwhole served)
+  where
+    served : is_served_input (b.state).c ≡ true
+    served = ap is_served_input (k.hears).after'
+        ∙ served-heard (told a.client) (told b.client) (a.state).c (a.state).sent_c (k.hears).bytes (a.state).end_c (a.state).shut_c false k.served (k.stands).client (k.stands).client_first (k.hears).first (k.hears).told'
+
+    clash : (x : Bool) → x ≡ true → x ≡ false → ⊥
+    clash x h1 h2 = cc
 
 -- ---- another version
 

@@ -1,13 +1,9 @@
 -- How reads of a client add up.
-use Rattle.std.proofs.Common.{◌≡◌, ◌<◌, ◌≤◌, ℕ, Bool, true, false, ◌||◌, Option, Some, None, List, [], ◌∷◌, ◌++◌, ◌==◌, nat_le, if◌then◌else◌, length, refl, ap, sym, subst, ◌∙◌, append_assoc, arith}
+use Rattle.std.proofs.Common.{◌≡◌, ◌<◌, ℕ, Bool, true, false, Option, List, [], ◌∷◌, ◌++◌, ◌==◌, nat_le, if◌then◌else◌, length, ap, sym, ◌∙◌, append_assoc, arith}
 use Rattle.std.proofs.lemmas.List.{append-nil}
-use mathlib.Core.List.{IsPrefix}
-use Rattle.net_ends.specs.Counts.{Counts, Later, Rose}
-use Rattle.net_ends.specs.Told.{Told, Arrival, more}
-use Rattle.assoc_core.specs.declared.hear.Heard.{Heard}
-use Rattle.assoc_core.specs.Hearing.{Hears, HearingEnds, is_decided, is_decision, is_end}
+use Rattle.net_ends.specs.Told.{Told, more}
+use Rattle.assoc_core.specs.Hearing.{is_decided}
 use Rattle.assoc_core.specs.Reads.{Comes, ComesOf}
-use Rattle.assoc_core.specs.Stands.{GivesFirst}
 use Rattle.assoc_core.proofs.Sendings.{more-nil, more-more}
 
 pub comes-none : (told : Told) (before : List ℕ) → Comes told told before before

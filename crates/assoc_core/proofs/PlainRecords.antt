@@ -1,8 +1,7 @@
 -- What the definitions say of a record of the first path: its split, its phase and what it owes.
-use Rattle.std.proofs.Common.{◌≡◌, ℕ, Bool, true, false, ◌&&◌, ◌==◌, if◌then◌else◌, Option, Some, None, List, [], ◌∷◌, ◌++◌, refl, sym, ap, subst, ◌∙◌, is_some, is_none, option_map, drop, append_assoc, arith}
+use Rattle.std.proofs.Common.{◌≡◌, ℕ, Bool, true, false, ◌&&◌, ◌==◌, if◌then◌else◌, Option, Some, None, List, [], ◌∷◌, ◌++◌, refl, sym, ap, ◌∙◌, is_some, is_none, drop, append_assoc, arith}
 use Rattle.std.proofs.lemmas.List.{append-nil}
 use Rattle.addr_pattern.specs.declared.endpoint.Endpoint.{Endpoint}
-use Rattle.addr_pattern.specs.declared.front.BadKind.{BadKind}
 use Rattle.addr_pattern.specs.declared.host.Host.{Host}
 use Rattle.conf_model.specs.declared.config.Config.{Config}
 use Rattle.conf_model.specs.declared.protocol.Command.{Command}
@@ -25,12 +24,12 @@ use Rattle.socks_machine.specs.Owed.{owed_to_client, owed_to_target, refusal_of_
 use Rattle.socks_machine.specs.Phase.{Phase, phase, way, phase_split_in, relay_began, phase_opened_in, phase_by_command, phase_connect, target_payload, client_payload, began_by, replies_length}
 use Rattle.socks_machine.specs.Replies.{refusal}
 use Rattle.socks_machine.specs.Served.{is_served_input, is_whole_input}
-use Rattle.socks_machine.specs.Socks.{socks, chosen_reply, passed_reply, success, is_in_login, is_granting_udp, is_udp_command, has_address, is_proxy5}
+use Rattle.socks_machine.specs.Socks.{socks, chosen_reply, passed_reply, success, is_in_login, is_granting_udp, is_proxy5}
 use Rattle.socks_machine.specs.Step.{fresh}
 use Rattle.socks_machine.specs.View.{view, length_of, proxy_of, proxy_in, outcome_with, said_with, said_to_proxy, split_of, login_passed, login_fits_behind, asks_login}
-use Rattle.assoc_core.specs.Plain.{IsPlainRecord, HasChosen, HasDecided, Talking, Judged, Dialled, Untargeted, owed_c, owed_t, plain_to_client, plain_to_target, refusal_owed, no_login, success_reply, payload_to_client}
+use Rattle.assoc_core.specs.Plain.{IsPlainRecord, HasChosen, HasDecided, Talking, Judged, Dialled, owed_c, owed_t, plain_to_client, plain_to_target, refusal_owed}
 use Rattle.assoc_core.specs.Preludes.{IsConnect, address_at}
-use Rattle.assoc_core.proofs.ServedInput.{split-served, served_split, served-forms, Forms, other-split}
+use Rattle.assoc_core.proofs.ServedInput.{split-served, served_split, served-forms, other-split}
 
 -- ---- what was decided
 

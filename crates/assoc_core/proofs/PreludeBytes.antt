@@ -1,7 +1,7 @@
 -- Thirteen bytes of the wanted form are a prelude.
-use Rattle.std.proofs.Common.{◌≡◌, ℕ, ◌+◌, ◌*◌, ◌≤◌, ◌<◌, length, List, [], ◌∷◌, get_or, refl, sym, ap, ◌∙◌, arith}
+use Rattle.std.proofs.Common.{◌≡◌, ℕ, ◌+◌, ◌*◌, ◌≤◌, length, List, ◌∷◌, get_or, arith}
 use Rattle.addr_pattern.specs.declared.addr.Addr.{Addr}
-use Rattle.assoc_core.specs.Preludes.{IsConnect, address_at}
+use Rattle.assoc_core.specs.Preludes.{IsConnect}
 
 pub thirteen-are-connect : (bytes : List ℕ) (n m : ℕ) → 13 ≤ length bytes
     → get_or bytes 0 0 ≡ 5 → get_or bytes 1 0 ≡ 1 → get_or bytes 2 0 ≡ 0 → get_or bytes 3 0 ≡ 5 → get_or bytes 4 0 ≡ 1 → get_or bytes 6 0 ≡ 1

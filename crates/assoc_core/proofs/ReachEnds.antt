@@ -1,13 +1,12 @@
 -- How a turn that dials ends: the target is greeted, or the client is refused.
-use Rattle.std.proofs.Common.{◌≡◌, ℕ, ◌-◌, ◌<◌, Bool, true, false, Option, Some, None, List, [], ◌∷◌, ◌++◌, length, drop, slice_set, option_map, refl, sym, ap, subst, ◌∙◌, inl, inr}
+use Rattle.std.proofs.Common.{◌≡◌, ℕ, ◌-◌, ◌<◌, Bool, true, false, Option, Some, None, List, [], ◌∷◌, ◌++◌, length, drop, slice_set, option_map, refl, sym, ap, subst, ◌∙◌}
 use Rattle.std.specs.Prelude.{Result, IfOk, Ok, Err}
-use mathlib.Core.List.{IsPrefix}
 use Rattle.addr_pattern.specs.declared.endpoint.Endpoint.{Endpoint}
 use Rattle.conf_model.specs.declared.config.Config.{Config}
 use Rattle.conf_model.specs.declared.user.User.{User}
-use Rattle.net_ends.specs.Counts.{Counts, Later, Rose}
+use Rattle.net_ends.specs.Counts.{Counts, Rose}
 use Rattle.net_ends.specs.Nets.{DialOutcome, NetTold, Plan, dialled}
-use Rattle.net_ends.specs.Told.{Told, more}
+use Rattle.net_ends.specs.Told.{Told}
 use Rattle.rule_list.specs.declared.facts.Facts.{Facts}
 use Rattle.rule_list.specs.declared.verdict.Verdict.{Verdict}
 use Rattle.socks_machine.specs.declared.cause.Cause.{Cause}
@@ -22,15 +21,15 @@ use Rattle.socks_machine.specs.Socks.{chosen_reply}
 use Rattle.assoc_core.specs.declared.assoc.Assoc.{Assoc}
 use Rattle.assoc_core.specs.declared.assoc.Next.{Next}
 use Rattle.assoc_core.specs.declared.send.Sent.{Sent}
-use Rattle.assoc_core.specs.Plain.{owed_c, plain_to_target, success_reply, refusal_owed, payload_to_client}
+use Rattle.assoc_core.specs.Plain.{owed_c, plain_to_target, success_reply, refusal_owed}
 use Rattle.assoc_core.specs.Reaching.{HasDialled, HasGreeted, IsNewLink, SameDesk, at_of, cause_of}
 use Rattle.assoc_core.specs.Sending.{Sends, SendEnds}
 use Rattle.assoc_core.specs.Stands.{Stands, Holds, HoldsTarget, EndsBehind, GivesFirst}
 use Rattle.assoc_core.specs.Turns.{Turns, SameOutside, SameTarget, IsUnfailing, IsFull, IsThereAnd, context}
 use Rattle.assoc_core.proofs.Answering.{all-owed, with_link}
 use Rattle.assoc_core.proofs.GrantTurns.{last-set, GrantEnds, fault_of, with_failure}
-use Rattle.assoc_core.proofs.Reaching.{Dialling, behind, before, context_of, payload-none, with_object}
-use Rattle.assoc_core.proofs.ReachTurns.{judged-in, Reaches, ReachWrites, FailedWrite, dialling_of, before-is, behind-is, turns-reached, due_c, first-due, told_taken, holds-new, target-none}
+use Rattle.assoc_core.proofs.Reaching.{Dialling, behind, before, payload-none, with_object}
+use Rattle.assoc_core.proofs.ReachTurns.{judged-in, Reaches, FailedWrite, dialling_of, before-is, behind-is, turns-reached, due_c, first-due, told_taken, holds-new, target-none}
 use Rattle.assoc_core.proofs.Sendings.{more-nil}
 use Rattle.assoc_core.proofs.StandsLaws.{same-target}
 use Rattle.assoc_core.proofs.TalkTurns.{with_state}
@@ -357,6 +356,11 @@ if-ok-more (Err e) P Q f h = h
 granted-facts : (ds : List Decision) (to : Endpoint) (g : ℕ) (rule : Option ℕ) (g' : ℕ) (facts : Facts) (verdict : Verdict)
     → Some to ≡ option_map (λ x. x.facts.to) (granted ds) → ds ≡ Decision.Opened g rule None ∷ Decision.Granted g' facts verdict None None ∷ [] → to ≡ facts.to
 granted-facts ds to g rule g' facts verdict e is = let k : Some to ≡ Some facts.to = e ∙ ap (λ (z : List Decision). option_map (λ x. x.facts.to) (granted z)) is in cc
+
+-- behind a grant there is a destination
+pub granted-some : (ds : List Decision) (g : ℕ) (rule : Option ℕ) (g' : ℕ) (facts : Facts) (verdict : Verdict) (to : Option Endpoint)
+    → to ≡ option_map (λ x. x.facts.to) (granted ds) → to ≡ None → ds ≡ Decision.Opened g rule None ∷ Decision.Granted g' facts verdict None None ∷ [] → ⊥
+granted-some ds g rule g' facts verdict to e none is = let k : None ≡ Some facts.to = sym none ∙ (e ∙ ap (λ (z : List Decision). option_map (λ x. x.facts.to) (granted z)) is) in cc
 
 -- what the code knows of a dial
 pub record Dials {L : Type 0} (told : L → Told) (net net' : NetTold) (now : ℕ) (a : Assoc L) (to : Endpoint) (pushed : List Decision) (outcome : DialOutcome) : Type 0 where

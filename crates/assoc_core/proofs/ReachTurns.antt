@@ -1,5 +1,5 @@
 -- What a turn that dials comes to.
-use Rattle.std.proofs.Common.{◌≡◌, ℕ, ◌+◌, ◌<◌, ◌≤◌, Bool, true, false, ◌&&◌, ◌||◌, not, Option, Some, None, List, [], ◌∷◌, ◌++◌, length, drop, refl, sym, ap, subst, ◌∙◌, is_some, length-append, append_assoc, arith}
+use Rattle.std.proofs.Common.{◌≡◌, ℕ, ◌+◌, ◌<◌, Bool, true, false, ◌&&◌, ◌||◌, not, Option, Some, None, List, [], ◌∷◌, ◌++◌, length, drop, refl, sym, ap, subst, ◌∙◌, is_some, length-append, append_assoc, arith}
 use Rattle.std.proofs.lemmas.List.{append-nil}
 use mathlib.Core.List.{IsPrefix}
 use Rattle.addr_pattern.specs.declared.endpoint.Endpoint.{Endpoint}
@@ -7,7 +7,7 @@ use Rattle.conf_model.specs.declared.config.Config.{Config}
 use Rattle.conf_model.specs.declared.user.User.{User}
 use Rattle.net_ends.specs.Counts.{Counts, Rose}
 use Rattle.net_ends.specs.Nets.{DialOutcome, Dial, NetTold, Plan, dialled}
-use Rattle.net_ends.specs.Told.{Told, Arrival, IsFresh, more}
+use Rattle.net_ends.specs.Told.{Told, IsFresh, more}
 use Rattle.rule_list.specs.declared.facts.Facts.{Facts}
 use Rattle.rule_list.specs.declared.verdict.Verdict.{Verdict}
 use Rattle.socks_machine.specs.declared.cause.Cause.{Cause}
@@ -16,22 +16,22 @@ use Rattle.socks_machine.specs.declared.lines.Line.{Line}
 use Rattle.socks_machine.specs.declared.record.Decision.{Decision}
 use Rattle.socks_machine.specs.declared.record.Record.{Record}
 use Rattle.socks_machine.specs.declared.world.Object.{Object}
-use Rattle.socks_machine.specs.Decisions.{Grant, reached, reached_at}
+use Rattle.socks_machine.specs.Decisions.{Grant, reached_at}
 use Rattle.socks_machine.specs.Owed.{owed_to_client, owed_to_target}
-use Rattle.socks_machine.specs.Phase.{Phase, phase}
-use Rattle.socks_machine.specs.Settle.{is_nothing, first_cause}
+use Rattle.socks_machine.specs.Phase.{Phase}
+use Rattle.socks_machine.specs.Settle.{is_nothing}
 use Rattle.socks_machine.specs.Socks.{chosen_reply}
 use Rattle.socks_machine.specs.Taking.{reads_client, reads_target}
-use Rattle.socks_machine.specs.Turn.{reads_in, has_pending, may_be_shut, may_write, fault_fits, with_fault}
+use Rattle.socks_machine.specs.Turn.{has_pending, fault_fits, with_fault}
 use Rattle.assoc_core.specs.declared.assoc.Assoc.{Assoc}
 use Rattle.assoc_core.specs.declared.assoc.Next.{Next}
-use Rattle.assoc_core.specs.Plain.{IsPlainRecord, HasDecided, Judged, owed_c, owed_t, success_reply, refusal_owed, plain_to_target, payload_to_client}
-use Rattle.assoc_core.specs.Reaching.{HasDialled, IsNewLink, SameDesk, at_of, cause_of}
+use Rattle.assoc_core.specs.Plain.{IsPlainRecord, HasDecided, Judged, owed_c, success_reply, refusal_owed, plain_to_target, payload_to_client}
+use Rattle.assoc_core.specs.Reaching.{HasDialled, SameDesk, at_of, cause_of}
 use Rattle.assoc_core.specs.Stands.{Stands, Holds, HoldsTarget, EndsBehind, GivesFirst}
-use Rattle.assoc_core.specs.Turns.{Turns, StopsReading, SameOutside, SameTarget, DialsAre, PlanStays, IsOuterOf, IsUnfailing, IsFull, IsThereAnd, links, context, outer_of}
+use Rattle.assoc_core.specs.Turns.{Turns, StopsReading, SameOutside, SameTarget, DialsAre, PlanStays, IsOuterOf, IsUnfailing, IsFull, IsThereAnd, links, outer_of}
 use Rattle.assoc_core.proofs.Answering.{still-left}
 use Rattle.assoc_core.proofs.PlainRecords.{plain-owes-client, plain-owes-target}
-use Rattle.assoc_core.proofs.Reaching.{Dialling, dialler, connecting, granted_before, reached_behind, basis_of, context_of, before, behind, grant_of, phase-before, plain-behind, payload-none, reach_acts, with_object, ReachSends, reaches-on}
+use Rattle.assoc_core.proofs.Reaching.{Dialling, reached_behind, basis_of, context_of, before, behind, grant_of, phase-before, plain-behind, payload-none, reach_acts, with_object, ReachSends, reaches-on}
 use Rattle.assoc_core.proofs.TalkTurns.{with_state}
 
 -- ---- what is owed

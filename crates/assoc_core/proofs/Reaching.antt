@@ -1,6 +1,5 @@
 -- The turn in which a granted destination is dialled.
-use Rattle.std.proofs.Common.{◌≡◌, ℕ, ◌<◌, ◌≤◌, Bool, true, false, ◌&&◌, ◌||◌, not, if◌then◌else◌, Option, Some, None, List, [], ◌∷◌, ◌++◌, length, drop, refl, sym, ap, subst, ◌∙◌, inl, inr, is_some, is_none, append_assoc, length-append, arith}
-use Rattle.std.proofs.lemmas.List.{append-nil}
+use Rattle.std.proofs.Common.{◌≡◌, ℕ, Bool, true, false, ◌&&◌, ◌||◌, not, if◌then◌else◌, Option, Some, None, List, [], ◌∷◌, ◌++◌, length, refl, sym, ap, subst, ◌∙◌, inl, inr, is_some}
 use mathlib.Core.List.{IsPrefix}
 use Rattle.addr_pattern.specs.declared.endpoint.Endpoint.{Endpoint}
 use Rattle.conf_model.specs.declared.config.Config.{Config}
@@ -26,19 +25,19 @@ use Rattle.socks_machine.specs.Basis.{Basis}
 use Rattle.socks_machine.specs.Calls.{Context, TurnResult, keep, call, decided, dialled, is_calling}
 use Rattle.socks_machine.specs.Datagrams.{owed_datagrams}
 use Rattle.socks_machine.specs.Decisions.{Grant}
-use Rattle.socks_machine.specs.InTurn.{InTurn, Called, Takes}
+use Rattle.socks_machine.specs.InTurn.{Called}
 use Rattle.socks_machine.specs.Owed.{owed_to_client, owed_to_target}
 use Rattle.socks_machine.specs.Phase.{Phase, phase, began}
 use Rattle.socks_machine.specs.Served.{is_served_input, is_whole_input}
 use Rattle.socks_machine.specs.Settle.{first_cause}
 use Rattle.socks_machine.specs.Socks.{socks, chosen_reply}
-use Rattle.socks_machine.specs.Turn.{turn, marked, moves, fault_fits, with_fault, fault_cause}
+use Rattle.socks_machine.specs.Turn.{turn, moves, fault_fits, with_fault, fault_cause}
 use Rattle.socks_machine.proofs.CallLaws.{answers-call}
 use Rattle.socks_machine.specs.View.{proxy_in}
-use Rattle.assoc_core.specs.Plain.{IsPlainRecord, HasChosen, owed_c, owed_t, success_reply, refusal_owed, plain_to_target, payload_to_client}
+use Rattle.assoc_core.specs.Plain.{IsPlainRecord, HasChosen, success_reply, refusal_owed, plain_to_target, payload_to_client}
 use Rattle.assoc_core.specs.Reaching.{at_of, cause_of}
-use Rattle.assoc_core.specs.Turns.{Acts, event_of, context, links, outer_of}
-use Rattle.assoc_core.proofs.PlainRecords.{and-false, no-proxy, reach-phase, direct_grant, plain-owes-client, plain-owes-target}
+use Rattle.assoc_core.specs.Turns.{Acts, event_of, context, outer_of}
+use Rattle.assoc_core.proofs.PlainRecords.{and-false, no-proxy, reach-phase, direct_grant}
 use Rattle.assoc_core.proofs.TalkCloses.{sends}
 use Rattle.assoc_core.proofs.Talking.{Party}
 

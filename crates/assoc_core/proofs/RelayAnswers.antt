@@ -16,6 +16,7 @@ use Rattle.socks_machine.specs.declared.world.NextMark.{NextMark}
 use Rattle.socks_machine.specs.declared.world.Object.{Object}
 use Rattle.socks_machine.specs.declared.world.Outer.{Outer}
 use Rattle.socks_machine.specs.Calls.{call_close, close_line, cause_of_shut, is_calling}
+use Rattle.socks_machine.specs.Decisions.{reached_at}
 use Rattle.socks_machine.specs.History.{at_close}
 use Rattle.socks_machine.specs.Phase.{is_udp}
 use Rattle.socks_machine.specs.Relaying.{relayed}
@@ -28,7 +29,7 @@ use Rattle.assoc_core.specs.declared.relay.Pass.{Pass}
 use Rattle.assoc_core.specs.Carrying.{Passes, has_ended, is_read, is_sound, is_idle, is_full, is_unwritten, is_quantum, fault_of, unwritten_of, has_pending, took_quantum}
 use Rattle.assoc_core.specs.Closing.{Closed}
 use Rattle.assoc_core.specs.Plain.{IsPlainRecord}
-use Rattle.assoc_core.specs.Stands.{Stands}
+use Rattle.assoc_core.specs.Stands.{HoldsTarget, Stands}
 use Rattle.assoc_core.specs.Turns.{event_of, context, Turns, mark_of}
 use Rattle.assoc_core.proofs.PassLaws.{ended-of, unread-of, source-of, end-of, unsound-of, unwritten-left, sent-of, nothing-of, FaultTells, fault-tells, sound-written}
 use Rattle.assoc_core.proofs.RelayEnds.{InRelay, InFault, FailsSide, FailsOn, Resting, goes-again, goes-waiting, Failed, fails, fault_acts, both, some-left}
@@ -380,6 +381,11 @@ mid-tcp old new client client' target target' counts counts' pass plain passes =
 
 pub none-written : (pass : Pass) → fault_of pass ≡ None → unwritten_of pass ≡ false
 none-written pass h = let f = tells-of pass None h in rw (sound-written pass.gave_t f.1, sound-written pass.gave_c f.3) refl
+
+-- a target that was reached has a link
+pub there-is : {L : Type 0} (told : L → Told) (r : Record) (target : Option L) (at : Endpoint) → HoldsTarget told r target → target ≡ None → reached_at r.decisions ≡ Some at → ⊥
+there-is told r None at h none reaches = let k : None ≡ Some at = sym h.0 ∙ reaches in cc
+there-is told r (Some link) at h none reaches = cc
 
 pub not-both : (c t : Bool) → c && t ≡ false → c ≡ true → t ≡ true → ⊥
 not-both c t h k l = clash (c && t) (both c t k l) h

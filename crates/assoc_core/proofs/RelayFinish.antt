@@ -1,5 +1,5 @@
 -- The last shut of a relay, where it is the target's side. The mirror on the client's side is a law of the machine.
-use Rattle.std.proofs.Common.{sym, ◌≡◌, refl, Bool, true, false, ◌&&◌, ◌||◌, not, if◌then◌else◌, Option, Some, None, List, ◌++◌, length, ap, ◌∙◌, drop}
+use Rattle.std.proofs.Common.{sym, ◌≡◌, refl, Bool, true, false, ◌&&◌, ◌||◌, not, if◌then◌else◌, Some, None, ◌++◌, length, ap, ◌∙◌, drop}
 use Rattle.socks_machine.specs.declared.cause.Cause.{Cause}
 use Rattle.socks_machine.specs.declared.record.Record.{Record}
 use Rattle.socks_machine.specs.declared.world.TurnEvent.{TurnEvent}

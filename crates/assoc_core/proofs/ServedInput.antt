@@ -1,5 +1,5 @@
 -- The input that the first path serves: which forms it has, and how it is split.
-use Rattle.std.proofs.Common.{◌≡◌, ℕ, ◌≤◌, Bool, true, false, ◌&&◌, ◌==◌, if◌then◌else◌, Option, Some, None, List, [], ◌∷◌, ◌++◌, length, refl, sym, ap, subst, ◌∙◌, option_map, arith, true-eqb, eqb-true}
+use Rattle.std.proofs.Common.{◌≡◌, ℕ, Bool, true, false, ◌&&◌, ◌==◌, if◌then◌else◌, Option, Some, None, List, [], ◌∷◌, ◌++◌, refl, sym, ap, subst, ◌∙◌, option_map, eqb-true}
 use Rattle.std.specs.Int.{w16, w32, from_be_bytes}
 use Rattle.addr_pattern.specs.declared.addr.Addr.{Addr}
 use Rattle.addr_pattern.specs.declared.front.BadKind.{BadKind}
@@ -10,7 +10,7 @@ use Rattle.conf_model.specs.declared.protocol.Version.{Version}
 use Rattle.conf_model.specs.declared.user.User.{User}
 use Rattle.conf_model.specs.Handshake.{Request, Split, split}
 use Rattle.socks_machine.specs.declared.record.Chosen.{Chosen}
-use Rattle.socks_machine.specs.Served.{agrees, served_prelude, is_served_input, is_whole_input}
+use Rattle.socks_machine.specs.Served.{agrees, served_prelude, is_served_input}
 use Rattle.assoc_core.specs.Plain.{HasChosen, is_greeted}
 
 -- ---- the bytes, as far as both go

@@ -1,9 +1,7 @@
 -- What stays of an association that stands for its record.
-use Rattle.std.proofs.Common.{◌≡◌, ℕ, Bool, true, false, Option, Some, None, List, [], ◌++◌, refl, sym, ap, subst, ◌∙◌}
-use mathlib.Core.List.{IsPrefix}
-use Rattle.addr_pattern.specs.declared.endpoint.Endpoint.{Endpoint}
+use Rattle.std.proofs.Common.{◌≡◌, ℕ, Bool, false, Option, Some, None, List, [], refl, sym, ◌∙◌}
 use Rattle.net_ends.specs.Nets.{NetTold}
-use Rattle.net_ends.specs.Told.{Told, Arrival}
+use Rattle.net_ends.specs.Told.{Told}
 use Rattle.socks_machine.specs.declared.record.Record.{Record}
 use Rattle.socks_machine.specs.declared.world.Outer.{Outer}
 use Rattle.socks_machine.specs.Decisions.{reached_at}

@@ -1,10 +1,9 @@
 -- The turns in which a client that talks is closed.
-use Rattle.std.proofs.Common.{◌≡◌, ℕ, ◌<◌, ◌≤◌, Bool, true, false, ◌&&◌, ◌||◌, not, ◌⊎◌, Option, Some, None, List, [], ◌∷◌, ◌++◌, length, drop, refl, sym, ap, subst, ◌∙◌, inl, inr, is_some, is_none, arith}
+use Rattle.std.proofs.Common.{◌≡◌, ℕ, ◌<◌, Bool, true, false, ◌&&◌, ◌||◌, ◌⊎◌, Option, Some, None, List, [], ◌++◌, length, refl, sym, ap, subst, ◌∙◌, inl, inr}
 use Rattle.std.proofs.lemmas.List.{append-nil}
 use Rattle.net_ends.specs.Counts.{Counts, Rose}
 use Rattle.net_ends.specs.Nets.{NetTold}
-use Rattle.net_ends.specs.Told.{Told, more}
-use Rattle.session_desk.specs.Calls.{Closes}
+use Rattle.net_ends.specs.Told.{Told}
 use Rattle.socks_machine.specs.declared.cause.Cause.{Cause}
 use Rattle.socks_machine.specs.declared.cause.StopBy.{StopBy}
 use Rattle.socks_machine.specs.declared.lines.Line.{Line}
@@ -12,14 +11,14 @@ use Rattle.socks_machine.specs.declared.record.Record.{Record}
 use Rattle.socks_machine.specs.declared.world.NextMark.{NextMark}
 use Rattle.socks_machine.specs.declared.world.Object.{Object}
 use Rattle.socks_machine.specs.declared.world.TurnEvent.{TurnEvent}
-use Rattle.socks_machine.specs.Calls.{Context, TurnResult, keep, is_calling, call_close, close_line, cause_of_shut}
+use Rattle.socks_machine.specs.Calls.{keep, is_calling, call_close, close_line, cause_of_shut}
 use Rattle.socks_machine.specs.History.{at_close}
 use Rattle.socks_machine.specs.InTurn.{Takes, Sends, InTurn}
 use Rattle.socks_machine.specs.Owed.{owed_to_client, owed_to_target}
 use Rattle.socks_machine.specs.Datagrams.{owed_datagrams}
 use Rattle.socks_machine.specs.Phase.{Phase, phase, is_udp}
 use Rattle.socks_machine.specs.Taking.{reads_client, reads_target}
-use Rattle.socks_machine.specs.Turn.{turn, quantum, with_fault, fault_fits, close_is_due, marked, nothing_pending, is_quiet, rests, is_late}
+use Rattle.socks_machine.specs.Turn.{quantum, with_fault, fault_fits, close_is_due, marked, nothing_pending, is_quiet, rests, is_late}
 use Rattle.socks_machine.proofs.CallLaws.{closes}
 use Rattle.assoc_core.specs.declared.assoc.Assoc.{Assoc}
 use Rattle.assoc_core.specs.declared.assoc.Ended.{Ended}
@@ -28,8 +27,8 @@ use Rattle.assoc_core.specs.Closing.{Closed}
 use Rattle.assoc_core.specs.Hearing.{IsAtEnd}
 use Rattle.assoc_core.specs.Stands.{Stands, GivesFirst}
 use Rattle.assoc_core.specs.Turns.{Turns, links, StopsReading, IsIdle}
-use Rattle.assoc_core.proofs.Talking.{Hearing, Party, talker, basis_of, context_of, before, heard, heard_takings, answered, let_in}
-use Rattle.assoc_core.proofs.TalkTurns.{Talked, turns-talked, talk_acts, talk_event, heard_told, with_state}
+use Rattle.assoc_core.proofs.Talking.{Hearing, talker, basis_of, context_of, before, heard_takings, answered, let_in}
+use Rattle.assoc_core.proofs.TalkTurns.{turns-talked, talk_acts, talk_event, heard_told, with_state}
 
 -- ---- its stages
 

@@ -1,12 +1,8 @@
 -- The turns with a client that talks.
-use Rattle.std.proofs.Common.{◌≡◌, ℕ, ◌+◌, ◌-◌, ◌<◌, ◌≤◌, Bool, true, false, ◌&&◌, ◌||◌, not, ◌==◌, nat_le, if◌then◌else◌, Option, Some, None, List, [], ◌∷◌, ◌++◌, length, drop, refl, sym, ap, subst, ◌∙◌, inl, inr, append_assoc, length-append, is_some, is_none, arith}
-use Rattle.std.proofs.lemmas.List.{append-nil}
-use mathlib.Core.List.{IsPrefix}
-use Rattle.addr_pattern.specs.declared.endpoint.Endpoint.{Endpoint}
+use Rattle.std.proofs.Common.{◌≡◌, ℕ, ◌<◌, Bool, true, false, ◌||◌, Option, Some, None, List, [], ◌++◌, length, refl, sym, ap, subst, ◌∙◌, length-append}
 use Rattle.net_ends.specs.Counts.{Counts, Rose}
 use Rattle.net_ends.specs.Nets.{NetTold}
 use Rattle.net_ends.specs.Told.{Told, more}
-use Rattle.socks_machine.specs.declared.cause.Cause.{Cause}
 use Rattle.socks_machine.specs.declared.cause.StopBy.{StopBy}
 use Rattle.socks_machine.specs.declared.lines.Line.{Line}
 use Rattle.socks_machine.specs.declared.record.Record.{Record}
@@ -14,7 +10,7 @@ use Rattle.socks_machine.specs.declared.world.NextMark.{NextMark}
 use Rattle.socks_machine.specs.declared.world.Object.{Object}
 use Rattle.socks_machine.specs.declared.world.Outer.{Outer}
 use Rattle.socks_machine.specs.declared.world.TurnEvent.{TurnEvent}
-use Rattle.socks_machine.specs.Calls.{Context, TurnResult}
+use Rattle.socks_machine.specs.Calls.{TurnResult}
 use Rattle.socks_machine.specs.InTurn.{Takes}
 use Rattle.socks_machine.specs.Phase.{Phase, phase}
 use Rattle.socks_machine.specs.Taking.{reads_client, reads_target}
@@ -25,9 +21,9 @@ use Rattle.assoc_core.specs.declared.assoc.Next.{Next}
 use Rattle.assoc_core.specs.Hearing.{IsAtEnd}
 use Rattle.assoc_core.specs.Plain.{owed_c}
 use Rattle.assoc_core.specs.Stands.{Stands, Holds, EndsBehind, GivesFirst, HoldsTarget}
-use Rattle.assoc_core.specs.Turns.{Turns, Acts, event_of, context, links, mark_of, left_of, GoesOn, IsIdle, IsFull, SameOutside, SameTarget, DialsAre, PlanStays, IsOuterOf, StopsReading, Unread, ReadsEnd}
-use Rattle.assoc_core.proofs.StandsLaws.{SameTargetSide, target-same, same-outside, same-target}
-use Rattle.assoc_core.proofs.Talking.{Hearing, Party, talker, basis_of, context_of, before, heard, heard_takings}
+use Rattle.assoc_core.specs.Turns.{Turns, Acts, event_of, links, mark_of, left_of, GoesOn, IsIdle, IsFull, SameOutside, SameTarget, DialsAre, PlanStays, IsOuterOf, StopsReading}
+use Rattle.assoc_core.proofs.StandsLaws.{SameTargetSide, target-same, same-target}
+use Rattle.assoc_core.proofs.Talking.{Hearing, basis_of, context_of, before, heard_takings}
 
 -- ---- what its link tells
 

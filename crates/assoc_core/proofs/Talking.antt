@@ -1,14 +1,13 @@
 -- What a turn takes of a client that talks.
-use Rattle.std.proofs.Common.{◌≡◌, ℕ, ◌<◌, ◌≤◌, Bool, true, false, ◌&&◌, ◌||◌, ◌==◌, nat_le, if◌then◌else◌, Option, Some, None, List, [], ◌∷◌, ◌++◌, length, refl, sym, ap, subst, ◌∙◌, inl, inr, append_assoc, arith}
+use Rattle.std.proofs.Common.{◌≡◌, ℕ, ◌<◌, Bool, true, false, ◌==◌, nat_le, if◌then◌else◌, Option, Some, None, List, [], ◌∷◌, ◌++◌, length, refl, sym, ap, ◌∙◌, inl, inr}
 use Rattle.std.proofs.lemmas.List.{append-nil}
 use mathlib.Core.List.{IsPrefix}
 use Rattle.addr_pattern.specs.declared.endpoint.Endpoint.{Endpoint}
 use Rattle.addr_pattern.specs.declared.front.BadKind.{BadKind}
 use Rattle.conf_model.specs.declared.config.Config.{Config}
 use Rattle.conf_model.specs.declared.protocol.Method.{Method}
-use Rattle.conf_model.specs.declared.protocol.Version.{Version}
 use Rattle.conf_model.specs.declared.user.User.{User}
-use Rattle.conf_model.specs.Handshake.{Split, version_of}
+use Rattle.conf_model.specs.Handshake.{Split}
 use Rattle.socks_machine.specs.declared.cause.Cause.{Cause}
 use Rattle.socks_machine.specs.declared.cause.StopBy.{StopBy}
 use Rattle.socks_machine.specs.declared.lines.Line.{Line}
@@ -26,10 +25,10 @@ use Rattle.socks_machine.specs.Socks.{socks, chosen_reply}
 use Rattle.socks_machine.specs.Taking.{some_in, reads_client, with_client_bytes, chosen_after}
 use Rattle.socks_machine.specs.View.{view}
 use Rattle.assoc_core.specs.Hearing.{is_decided, chosen_as}
-use Rattle.assoc_core.specs.Plain.{IsPlainRecord, HasChosen, is_greeted, owed_c, owed_t, refusal_owed}
+use Rattle.assoc_core.specs.Plain.{HasChosen, is_greeted}
 use Rattle.assoc_core.specs.Preludes.{IsConnect, IsOther}
 use Rattle.assoc_core.specs.Turns.{context}
-use Rattle.assoc_core.proofs.PlainRecords.{and-false, talk-phase, judging-phase, request_to, plain-split, more-split, connect-split}
+use Rattle.assoc_core.proofs.PlainRecords.{and-false, talk-phase, judging-phase, request_to, plain-split, more-split}
 use Rattle.assoc_core.proofs.ServedInput.{served-forms, served-first, served_split, other-split}
 
 -- ---- the records

@@ -10,6 +10,7 @@ use Rattle.socks_machine.specs.Turn.{quantum}
 use Rattle.assoc_core.specs.declared.carry.Take.{Take}
 use Rattle.assoc_core.specs.declared.carry.Give.{Give}
 use Rattle.assoc_core.specs.declared.relay.Pass.{Pass}
+use Rattle.assoc_core.specs.declared.relay.Side.{Side}
 use Rattle.assoc_core.specs.Plain.{prelude, owed_c}
 use Rattle.assoc_core.specs.Stands.{EndsBehind, GivesFirst}
 use Rattle.assoc_core.specs.Turns.{IsIdle, IsFull}
@@ -106,6 +107,10 @@ is_full _ = false
 abbrev pub is_unwritten : Give → Bool
 is_unwritten Give.Unwritten = true
 is_unwritten _ = false
+
+abbrev pub object_of : Side → Object
+object_of Side.Client = Object.Client
+object_of Side.Target = Object.Target
 
 -- the object whose call failed first
 abbrev pub fault_of : Pass → Option Object

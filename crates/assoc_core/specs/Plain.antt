@@ -1,8 +1,6 @@
 -- The records of the first path: no login, no name, no proxy, no datagrams; and what they owe, in closed form.
-use Rattle.std.specs.Prelude.{ℕ, ◌≡◌, Bool, true, false, ◌&&◌, ◌==◌, Option, Some, None, List, [], ◌∷◌, ◌++◌, length, drop, is_some}
-use Rattle.std.specs.Int.{w16, w32, from_be_bytes}
+use Rattle.std.specs.Prelude.{ℕ, ◌≡◌, Bool, true, false, ◌&&◌, ◌==◌, Option, Some, None, List, [], ◌∷◌, ◌++◌, drop, is_some}
 use mathlib.Core.List.{IsPrefix}
-use Rattle.addr_pattern.specs.declared.addr.Addr.{Addr}
 use Rattle.addr_pattern.specs.declared.endpoint.Endpoint.{Endpoint}
 use Rattle.conf_model.specs.declared.protocol.Command.{Command}
 use Rattle.conf_model.specs.declared.protocol.Version.{Version}
@@ -12,8 +10,8 @@ use Rattle.socks_machine.specs.declared.cause.Cause.{Cause}
 use Rattle.socks_machine.specs.declared.record.Chosen.{Chosen}
 use Rattle.socks_machine.specs.declared.record.Decision.{Decision}
 use Rattle.socks_machine.specs.declared.record.Record.{Record}
-use Rattle.socks_machine.specs.Decisions.{granted, reached_at}
-use Rattle.socks_machine.specs.Replies.{RefusedAt, refusal, granted_reply, method_reply}
+use Rattle.socks_machine.specs.Decisions.{reached_at}
+use Rattle.socks_machine.specs.Replies.{RefusedAt, refusal}
 use Rattle.socks_machine.specs.Served.{is_served_input, is_whole_input}
 use Rattle.socks_machine.specs.Socks.{chosen_reply, success}
 use Rattle.socks_machine.specs.Step.{fresh}

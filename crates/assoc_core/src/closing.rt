@@ -3,7 +3,6 @@ ghost use Rattle.conf_model.specs.declared.config.Config.{Config};
 ghost use Rattle.conf_model.specs.declared.user.User.{User};
 ghost use Rattle.conf_model.specs.Plain.{IsPlain};
 ghost use Rattle.net_ends.specs.Nets.{NetTold};
-ghost use Rattle.socks_machine.specs.declared.cause.Cause.{Cause as Causes};
 ghost use Rattle.socks_machine.specs.declared.cause.StopBy.{StopBy};
 ghost use Rattle.socks_machine.specs.declared.lines.Line.{Line};
 ghost use Rattle.socks_machine.specs.Turn.{is_quiet as quiet_by};
@@ -84,20 +83,20 @@ fn is_quiet(cause: Cause) -> bool
 }
 
 impl<L: Link + Drop> Assoc<L> {
-    /// One turn behind a cause: what is pending is sent to the client and then to the target, and it ends where nothing
-    /// is pending, a write failed or the cause has no reply. Behind a failed write nothing more is sent.
+    /// One turn behind this cause: what is pending is sent to the client and then to the target, and it ends where
+    /// nothing is pending, a write failed or the cause has no reply. Behind a failed write nothing more is sent.
     pub(crate) fn closing<D: DeskCall>(
         mut self,
         alloc: Global,
         desk: &mut D,
+        cause: Cause,
     ) -> Result<Next<L>, AllocError>
-        ensures { IfOk result (λ next. (users : List User) (pubs : List Config) (generation : ℕ) (config : Config) (now : ℕ) (net : NetTold) (h : List Line) (marks : List StopBy) (cause : Causes)
-            → D.stands desk.old h marks → Stands L.told self → IsPlain config → self.state.since ≡ now → self.state.cause ≡ Some cause
+        requires { self.state.cause ≡ Some cause }
+        ensures cap { IfOk result (λ next. D.cap desk.new ≡ D.cap desk.old) }
+        ensures turns { IfOk result (λ next. (users : List User) (pubs : List Config) (generation : ℕ) (config : Config) (now : ℕ) (net : NetTold) (h : List Line) (marks : List StopBy)
+            → D.stands desk.old h marks → Stands L.told self → IsPlain config → self.state.since ≡ now
             → Turns L.told L.counts (D.stands desk.new) (context users pubs generation config (D.cap desk.old) h marks) now net net self next) }
     {
-        let Some(cause) = self.state.cause else {
-            return Err(AllocError);
-        };
         let gave_c = send_to_client(alloc, &mut self.state, &mut self.client)?;
         if !is_sound(gave_c) {
             return Ok(Next::Done(self.finish(desk, cause)));

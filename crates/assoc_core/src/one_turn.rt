@@ -39,7 +39,8 @@ fn course_of(decisions: &[Decision]) -> Course
 
 /// One turn of a worker on an association, with the configuration of the generation that it has seen; `now` is in
 /// seconds. An association that stands for a record makes one lawful turn of the machine on it, and what is answered
-/// stands for the record which that leaves. Want of memory is `Err`, and nothing is said of the association then.
+/// stands for the record which that leaves. Where memory is refused it is `Err`, and nothing is said of the association
+/// then.
 #[tactic(none)]
 pub fn turn<N: Net, K: DeskCall>(
     alloc: Global,
@@ -53,12 +54,13 @@ pub fn turn<N: Net, K: DeskCall>(
 where
     N::Link: Drop,
     requires { FitsNumbers config.now }
-    ensures { IfOk result (λ next. (users : Items User) (pubs : Items SomeConfig) (h : Items Line) (marks : Items StopBy)
+    ensures cap { IfOk result (λ next. K.cap desk.new ≡ K.cap desk.old) }
+    ensures turns { IfOk result (λ next. (users : Items User) (pubs : Items SomeConfig) (h : Items Line) (marks : Items StopBy)
         → K.stands desk.old h marks → Stands N.Link.told a → TellsServed (N.Link.told a.client) → IsPlain config.now → a.state.since ≡ now
         → Turns N.Link.told N.Link.counts (K.stands desk.new) (context users pubs generation config.now (K.cap desk.old) h marks) now (N.told net.old) (N.told net.new) a next) }
 {
-    if a.state.cause.is_some() {
-        return a.closing(alloc, desk);
+    if let Some(cause) = a.state.cause {
+        return a.closing(alloc, desk, cause);
     }
     match course_of(a.state.decisions.as_slice()) {
         Course::Accept => a.accept(generation, config, desk),

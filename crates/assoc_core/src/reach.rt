@@ -114,7 +114,8 @@ where
     ensures { IfOk result (λ next. (users : List User) (pubs : List Config) (generation : ℕ) (config : Config) (cap : ℕ) (h : List Line) (marks : List StopBy) (g g' : ℕ) (rule : Option ℕ) (facts : Facts) (verdict : Verdict) → Stands N.Link.told assoc → assoc.state.since ≡ now → assoc.state.cause ≡ None → assoc.state.decisions ≡ Decision.Opened g rule None ∷ Decision.Granted g' facts verdict None None ∷ [] → Turns N.Link.told N.Link.counts (SameDesk h marks) (context users pubs generation config cap h marks) now (N.told net.old) (N.told net.new) assoc next) }
 {
     let Some(to) = granted_to(assoc.state.decisions.as_slice()) else {
-        return Err(AllocError);
+        // Nothing was granted: nothing is dialled.
+        return Ok(Next::Wait(assoc));
     };
     assoc
         .state

@@ -1,4 +1,4 @@
-ghost use Rattle.std.specs.Prelude.{◌≡◌, ◌&&◌, ◌||◌, not, ℕ, List, IfOk, drop};
+ghost use Rattle.std.specs.Prelude.{◌≡◌, ◌&&◌, ◌||◌, not, ℕ, List, IfOk, drop, option_map};
 ghost use Rattle.addr_pattern.specs.declared.endpoint.Endpoint.{Endpoint};
 ghost use Rattle.conf_model.specs.declared.config.Config.{Config};
 ghost use Rattle.conf_model.specs.declared.user.User.{User};
@@ -7,7 +7,7 @@ ghost use Rattle.net_ends.specs.Nets.{NetTold};
 ghost use Rattle.socks_machine.specs.declared.cause.StopBy.{StopBy};
 ghost use Rattle.socks_machine.specs.declared.lines.Line.{Line};
 ghost use Rattle.socks_machine.specs.Decisions.{reached_at as first_reached};
-ghost use Rattle.assoc_core.specs.Carrying.{Passes, has_ended as ended_by, is_sound as sound_by, fault_of as fault_in, has_pending, took_quantum as quantum_in, unwritten_of};
+ghost use Rattle.assoc_core.specs.Carrying.{Passes, has_ended as ended_by, is_sound as sound_by, fault_of as fault_in, object_of, has_pending, took_quantum as quantum_in, unwritten_of};
 ghost use Rattle.assoc_core.specs.Stands.{Stands};
 ghost use Rattle.assoc_core.specs.Turns.{Turns, context};
 
@@ -17,8 +17,15 @@ use crate::prelude::PRELUDE;
 use crate::replies::owed_to_client;
 use net_ends::Link;
 use session_desk::DeskCall;
-use socks_machine::{Cause, Object, Record};
+use socks_machine::{Cause, Record};
 use std::alloc::{AllocError, Global};
+
+/// One of the two sides of a relay.
+#[derive(Clone, Copy, Debug, PartialEq, Eq)]
+pub enum Side {
+    Client,
+    Target,
+}
 
 /// What one pass over both directions came to.
 #[derive(Clone, Copy, Debug, PartialEq, Eq)]
@@ -100,21 +107,21 @@ fn carry_both<L: Link>(
     })
 }
 
-/// The object whose call failed first.
-fn fault_of(pass: Pass) -> Option<Object>
-    ensures { result ≡ fault_in pass }
+/// The side whose call failed first.
+fn fault_of(pass: Pass) -> Option<Side>
+    ensures { option_map object_of result ≡ fault_in pass }
 {
     if let Take::Failed = pass.took_c {
-        return Some(Object::Client);
+        return Some(Side::Client);
     }
     if !is_sound(pass.gave_t) {
-        return Some(Object::Target);
+        return Some(Side::Target);
     }
     if let Take::Failed = pass.took_t {
-        return Some(Object::Target);
+        return Some(Side::Target);
     }
     if !is_sound(pass.gave_c) {
-        return Some(Object::Client);
+        return Some(Side::Client);
     }
     None
 }
@@ -154,13 +161,15 @@ impl<L: Link + Drop> Assoc<L> {
         alloc: Global,
         desk: &mut D,
     ) -> Result<Next<L>, AllocError>
-        ensures { IfOk result (λ next. (users : List User) (pubs : List Config) (generation : ℕ) (config : Config) (now : ℕ) (net : NetTold) (h : List Line) (marks : List StopBy) (at : Endpoint)
+        ensures cap { IfOk result (λ next. D.cap desk.new ≡ D.cap desk.old) }
+        ensures turns { IfOk result (λ next. (users : List User) (pubs : List Config) (generation : ℕ) (config : Config) (now : ℕ) (net : NetTold) (h : List Line) (marks : List StopBy) (at : Endpoint)
             → D.stands desk.old h marks → Stands L.told self → IsPlain config → self.state.since ≡ now
             → first_reached self.state.decisions ≡ Some at → self.state.cause ≡ None
             → Turns L.told L.counts (D.stands desk.new) (context users pubs generation config (D.cap desk.old) h marks) now net net self next) }
     {
         let Some(target) = &mut self.target else {
-            return Err(AllocError);
+            // No target was reached: there is nothing to relay.
+            return Ok(Next::Wait(self));
         };
         let pass = carry_both(alloc, &mut self.state, &mut self.client, target)?;
         match fault_of(pass) {
@@ -173,8 +182,8 @@ impl<L: Link + Drop> Assoc<L> {
                 }
                 Ok(Next::Wait(self))
             }
-            Some(Object::Client) => Ok(Next::Done(self.finish(desk, Cause::ClientFault))),
-            Some(Object::Target) => {
+            Some(Side::Client) => Ok(Next::Done(self.finish(desk, Cause::ClientFault))),
+            Some(Side::Target) => {
                 if is_over(pass) {
                     return Ok(Next::Done(self.finish(desk, Cause::TargetFault)));
                 }
@@ -184,7 +193,6 @@ impl<L: Link + Drop> Assoc<L> {
                 }
                 Ok(Next::Wait(self))
             }
-            Some(_) => Err(AllocError),
         }
     }
 }

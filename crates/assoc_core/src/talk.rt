@@ -107,7 +107,8 @@ impl<L: Link + Drop> Assoc<L> {
                 let cause = Cause::BadVersion { at: 0, byte };
                 Ok(Next::Done(self.finish(desk, cause)))
             }
-            Prelude::More => Err(AllocError),
+            // Only bytes of another form than the one that is served: they aren't answered.
+            Prelude::More => Ok(Next::Wait(self)),
         }
     }
 

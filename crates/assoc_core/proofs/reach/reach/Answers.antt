@@ -1,7 +1,11 @@
 use Rattle.std.proofs.Common.{rules, refl}
 use Rattle.net_ends.specs.Nets.{DialOutcome}
-use Rattle.assoc_core.proofs.ReachEnds.{dialled-down, dialled-up, if-ok-more}
+use Rattle.assoc_core.proofs.ReachEnds.{dialled-down, dialled-up, granted-some, if-ok-more}
 use Rattle.assoc_core.proofs.reach.reach.Goals as goal
+
+pub returns-in_default : goal.returns-in_default
+returns-in_default g c = λ users pubs generation config most h marks opened' granted' rule facts verdict standing since uncaused is.
+    absurd (granted-some c.args.assoc.state.decisions opened' rule granted' facts verdict c.granted_to.result (search rules) c.in_default.is is)
 
 pub returns-in-Up : goal.returns-in-Up
 returns-in-Up g c = if-ok-more c.greet.result _ _ (λ next h' users pubs generation config most h marks opened' granted' rule facts verdict standing since uncaused is.

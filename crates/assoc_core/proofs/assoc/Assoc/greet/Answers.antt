@@ -1,4 +1,4 @@
-use Rattle.std.proofs.Common.{rules, refl, true, false}
+use Rattle.std.proofs.Common.{rules, true, false}
 use Rattle.assoc_core.specs.declared.send.Sent.{Sent}
 use Rattle.assoc_core.proofs.ReachEnds.{greets-turn, greets-none, has-greeted, unsent-behind, if-ok-more}
 use Rattle.assoc_core.proofs.assoc.Assoc.greet.Goals as goal
