@@ -7,6 +7,7 @@ use Rattle.conf_model.specs.declared.config.Config.{Config}
 use Rattle.conf_model.specs.declared.rule.ClientRule.{ClientRule}
 use Rattle.conf_model.specs.declared.rule.SocksRule.{SocksRule}
 use Rattle.conf_model.specs.Plain.{IsPlain}
+use Rattle.rule_list.specs.Numbers.{FitsNumbers}
 use Rattle.replay_script.specs.Conf.{IsInternal, IsRuleOf, IsRules, IsPublish, plain_config, client_rule}
 use Rattle.replay_script.specs.Forms.{v4}
 use Rattle.replay_script.proofs.Peeling.{peel_after, peel_number}
@@ -84,9 +85,18 @@ plain internal rules h = record {
   socks = h;
 }
 
-pub published_plain : (text : List ℕ) (config : Config) (lines : ℕ) (behind : List ℕ) → IsPublish text config lines behind → IsPlain config
+fits : (internal : Endpoint) (rules : List SocksRule) → length rules ≤ 4096 → FitsNumbers (plain_config internal rules)
+fits internal rules few = record {
+  client = omega arith;
+  socks = omega (arith, few);
+  routes = omega arith;
+}
+
+pub published_plain : (text : List ℕ) (config : Config) (lines : ℕ) (behind : List ℕ) → IsPublish text config lines behind → IsPlain config × FitsNumbers config
 published_plain text config lines behind h =
     let t = h.3.5 in
     let u = t.3.2 in
     let r = u.3.1 in
-    subst IsPlain (sym r.3) (plain t.3.0 r.0 (unlimited u.1 r.0 behind r.2))
+    let most = h.3.3 in
+    let count = r.1 in
+    (subst IsPlain (sym r.3) (plain t.3.0 r.0 (unlimited u.1 r.0 behind r.2)), subst FitsNumbers (sym r.3) (fits t.3.0 r.0 (omega (arith, most, count))))

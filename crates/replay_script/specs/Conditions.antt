@@ -4,6 +4,7 @@ use Rattle.std.specs.Prelude.{◌≡◌, ◌+◌, ◌-◌, ℕ, zero, suc, Bool,
 use Rattle.addr_pattern.specs.declared.addr.Addr.{Addr}
 use Rattle.addr_pattern.specs.declared.endpoint.Endpoint.{Endpoint}
 use Rattle.conf_model.specs.Plain.{IsPlain}
+use Rattle.rule_list.specs.Numbers.{FitsNumbers}
 use Rattle.socks_machine.specs.declared.world.Outer.{Outer}
 use Rattle.socks_machine.specs.declared.script.ScriptLine.{ScriptLine}
 use Rattle.socks_machine.specs.Served.{is_served_input, is_whole_input}
@@ -78,7 +79,7 @@ IsServedOutcome _ = ⊥
 
 -- what is served of a line, whatever stands before it
 abbrev pub IsServedForm : ScriptLine → Type 0
-IsServedForm (ScriptLine.Publish k) = IsPlain k
+IsServedForm (ScriptLine.Publish k) = IsPlain k × FitsNumbers k
 IsServedForm (ScriptLine.See w) = w ≡ 1
 IsServedForm (ScriptLine.Open w a peer local) = (w ≡ 1) × IsV4 peer × IsV4 local
 IsServedForm (ScriptLine.Client a bytes) = Unit {0}
