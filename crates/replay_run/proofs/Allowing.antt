@@ -1,14 +1,12 @@
 -- A turn of the association is one that the script allows.
-use Rattle.std.proofs.Common.{ℕ, suc, zero, ◌≡◌, ◌<◌, ◌≤◌, ◌⊎◌, inl, inr, ◌+◌, ◌-◌, ◌∙◌, sym, ap, subst, refl, Bool, true, false, ◌&&◌, ◌||◌, Option, Some, None, is_some, List, [], ◌∷◌, ◌++◌, length, map, arith, append-nil, length-append}
+use Rattle.std.proofs.Common.{ℕ, ◌≡◌, ◌<◌, ◌≤◌, inl, inr, ◌+◌, ◌∙◌, sym, ap, subst, refl, Bool, true, false, ◌&&◌, Option, Some, None, is_some, List, [], ◌∷◌, ◌++◌, length, map, arith, length-append}
 use Rattle.std.specs.Prelude.{IfSome, All, Contains, IsTrue}
 use mathlib.Core.List.{IsPrefix}
 use Rattle.addr_pattern.specs.declared.endpoint.Endpoint.{Endpoint}
 use Rattle.conf_model.specs.declared.config.Config.{Config}
 use Rattle.conf_model.specs.declared.protocol.Command.{Command}
-use Rattle.net_ends.specs.Counts.{Counts}
 use Rattle.net_ends.specs.Nets.{Plan}
 use Rattle.net_ends.specs.InMemory.{LinkInMemory, NetInMemory, told_of_link, told_of_net}
-use Rattle.net_ends.specs.Told.{Told, Arrival}
 use Rattle.socks_machine.specs.declared.cause.StopBy.{StopBy}
 use Rattle.socks_machine.specs.declared.lines.Line.{Line}
 use Rattle.socks_machine.specs.declared.record.Gram.{Gram}
@@ -26,11 +24,11 @@ use Rattle.socks_machine.specs.Follows.{Failing, Allows, OuterFits, OuterIs, Fau
 use Rattle.socks_machine.specs.History.{last_mark}
 use Rattle.rule_list.specs.Rules.{numbered}
 use Rattle.socks_machine.specs.Phase.{Phase, phase}
-use Rattle.socks_machine.specs.Script.{Outside, Surroundings, behind_turn, without_ends, did, reached_as}
+use Rattle.socks_machine.specs.Script.{Outside, Surroundings, behind_turn, did, reached_as}
 use Rattle.socks_machine.specs.Step.{basis_of, step}
 use Rattle.socks_machine.specs.Taking.{holds, some_in, of_generation, reads_client, reads_target, reads_port, taken, with_client_bytes, pipe_size, ◌>>=◌}
 use Rattle.socks_machine.specs.Decisions.{Grant, Reaching, reached}
-use Rattle.socks_machine.specs.InTurn.{Took, Takes}
+use Rattle.socks_machine.specs.InTurn.{Took}
 use Rattle.socks_machine.specs.PhaseFacts.{PhaseFacts}
 use Rattle.socks_machine.specs.View.{view}
 use Rattle.socks_machine.proofs.PhaseFactsLaws.{phase-says}
@@ -39,13 +37,12 @@ use Rattle.socks_machine.proofs.TurnCompletes.{takes-from}
 use Rattle.conf_model.specs.declared.protocol.Method.{Method}
 use Rattle.std.specs.List.{list_all}
 use Rattle.std.specs.Prelude.{option_and_then}
-use Rattle.socks_machine.specs.Turn.{quantum}
 use Rattle.assoc_core.specs.declared.assoc.Assoc.{Assoc}
 use Rattle.assoc_core.specs.declared.assoc.Next.{Next}
 use Rattle.assoc_core.specs.Plain.{owed_c, owed_t}
-use Rattle.assoc_core.specs.Stands.{HoldsTarget, GivesFirst, EndsBehind}
-use Rattle.assoc_core.specs.Turns.{Turns, Acts, event_of, links, mark_of, left_of, context, IsOuterOf, IsFull, IsIdle, IsThereAnd, SameTarget, StopsReading, Unread, ReadsEnd, outer_of, IsUnfailing}
-use Rattle.replay_run.specs.Mirrors.{IsGoing, TargetIs, TargetMirrors, Quiet}
+use Rattle.assoc_core.specs.Stands.{HoldsTarget}
+use Rattle.assoc_core.specs.Turns.{Turns, event_of, links, mark_of, left_of, context, IsOuterOf, IsFull, IsIdle, IsThereAnd, SameTarget, StopsReading, Unread, ReadsEnd, outer_of, IsUnfailing}
+use Rattle.replay_run.specs.Mirrors.{IsGoing, TargetMirrors}
 use Rattle.replay_run.proofs.Outsides.{same-arrived, same-ends, same-cap, target-behind, owed-c-short, owed-t-short}
 
 -- ---- small facts

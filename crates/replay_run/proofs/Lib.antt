@@ -1,6 +1,15 @@
 pub mod Allowing
+pub mod AtTurns
+pub mod Beginning
+pub mod Changing
+pub mod Ending
+pub mod Forms
+pub mod Happening
 pub mod Outsides
+pub mod Places
 pub mod Playing
+pub mod Rounding
 pub mod Slots
+pub mod TurnLines
 pub mod Turned
 pub mod Writing

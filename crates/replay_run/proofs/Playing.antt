@@ -8,13 +8,13 @@ use Rattle.socks_machine.specs.declared.world.NextMark.{NextMark}
 use Rattle.socks_machine.specs.declared.world.TurnEvent.{TurnEvent}
 use Rattle.socks_machine.specs.declared.world.World.{World}
 use Rattle.socks_machine.specs.Equal.{mark_eq}
-use Rattle.socks_machine.specs.Follows.{Follows, Rounds, Closing, IsEventOf, IsTurnOf, Failing, surroundings_after, used_up, begins, IsReplay, users_of, opens_of, workers_of}
+use Rattle.socks_machine.specs.Follows.{Follows, Rounds, Closing, IsEventOf, IsTurnOf, Failing, surroundings_after, used_up, begins, IsReplay}
 use Rattle.socks_machine.specs.Script.{Surroundings, outside_after, is_silent, is_still, next_in_round, going, first_surroundings}
-use Rattle.socks_machine.specs.Step.{step, steps, run, run_from, turns_end, goes_on, is_turn_of}
+use Rattle.socks_machine.specs.Step.{step, steps, turns_end, goes_on, is_turn_of}
 use Rattle.socks_machine.specs.Taking.{◌>>=◌}
-use Rattle.socks_machine.specs.Transcript.{traced, line_before, event_line, transcript, with_rounds, with_ends, ends, line}
+use Rattle.socks_machine.specs.Transcript.{traced, line_before, event_line, with_rounds, with_ends, ends, line}
 use Rattle.std.specs.Prelude.{codes, ◌≢◌, length}
-use Rattle.replay_run.specs.Played.{Plays, is_over, Traces, Played, InRounds}
+use Rattle.replay_run.specs.Played.{is_over, Traces, Played, InRounds}
 
 -- ---- events
 
@@ -90,7 +90,7 @@ plays-event script lines s w new out l e used h loud is k over = record {
 
 -- ---- the closing rounds
 
-abbrev close_line : List ℕ
+abbrev pub close_line : List ℕ
 close_line = line (codes "close" ∷ [])
 
 over-ends : (e : Event) (es : List Event) → is_over e ≡ true → goes_on e es ≡ false

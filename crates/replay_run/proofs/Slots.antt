@@ -1,14 +1,12 @@
 -- Lists of associations and of their outsides, place by place.
-use Rattle.std.proofs.Common.{ℕ, zero, suc, ◌≡◌, ◌+◌, ◌∙◌, sym, ap, subst, refl, Bool, true, false, not, filter, is_some, if◌then◌else◌, Option, Some, None, List, [], ◌∷◌, ◌++◌, length, map, arith, slice_set}
+use Rattle.std.proofs.Common.{ℕ, zero, suc, ◌≡◌, ◌+◌, ◌∙◌, sym, ap, subst, refl, not, filter, is_some, if◌then◌else◌, Option, Some, None, List, [], ◌∷◌, ◌++◌, length, map, arith, slice_set}
 use Rattle.std.specs.Prelude.{slice_get}
-use Rattle.socks_machine.specs.declared.record.Record.{Record}
 use Rattle.socks_machine.specs.declared.world.TurnEvent.{TurnEvent}
 use Rattle.addr_pattern.specs.declared.endpoint.Endpoint.{Endpoint}
 use Rattle.socks_machine.specs.Follows.{used_up, is_used}
 use Rattle.socks_machine.specs.Script.{Outside, Surroundings, change, change_at}
-use Rattle.rule_list.specs.Rules.{numbered}
 use Rattle.replay_run.specs.declared.slot.Slot.{Slot}
-use Rattle.replay_run.specs.Mirrors.{AreSlots, IsSlot, record_of}
+use Rattle.replay_run.specs.Mirrors.{AreSlots, IsSlot}
 
 pub set-same : {A : Type 0} (xs : List A) (k : ℕ) (x : A) → slice_get xs k ≡ Some x → slice_set xs k x ≡ xs
 set-same [] k x h = refl
@@ -17,6 +15,12 @@ set-same (y ∷ ys) zero x h = ap (λ z. z ∷ ys) (the-same y x h)
     the-same : {A : Type 0} (a b : A) → Some a ≡ Some b → b ≡ a
     the-same a b h = cc
 set-same (y ∷ ys) (suc k) x h = ap (λ zs. y ∷ zs) (set-same ys k x h)
+
+-- the second item that is set at a place stays
+pub set-set : {A : Type 0} (xs : List A) (k : ℕ) (x y : A) → slice_set (slice_set xs k x) k y ≡ slice_set xs k y
+set-set [] k x y = refl
+set-set (z ∷ zs) zero x y = refl
+set-set (z ∷ zs) (suc k) x y = ap (λ ys. z ∷ ys) (set-set zs k x y)
 
 pub map-set-at : {A B : Type 0} (f : A → B) (xs : List A) (k : ℕ) (x : A) → map f (slice_set xs k x) ≡ slice_set (map f xs) k (f x)
 map-set-at f [] k x = refl

@@ -1,5 +1,5 @@
 -- The world behind a turn, and that the replay still holds what it is.
-use Rattle.std.proofs.Common.{ℕ, zero, suc, ◌≡◌, ◌≤◌, ◌+◌, ◌∙◌, sym, ap, subst, refl, Bool, true, false, Option, Some, None, is_some, List, [], ◌∷◌, ◌++◌, length, map, arith, slice_set}
+use Rattle.std.proofs.Common.{ℕ, zero, suc, ◌≡◌, ◌≤◌, ◌+◌, ◌∙◌, sym, ap, subst, refl, Bool, true, false, Option, Some, None, is_some, List, [], ◌∷◌, map, arith, slice_set}
 use Rattle.std.specs.Prelude.{slice_get, unwrap_or}
 use Rattle.conf_model.specs.declared.config.Config.{Config}
 use Rattle.net_ends.specs.InMemory.{LinkInMemory, NetInMemory, told_of_link, told_of_net}
@@ -26,7 +26,7 @@ use Rattle.socks_machine.specs.declared.world.Outer.{Outer}
 use Rattle.socks_machine.specs.Calls.{Context}
 use Rattle.socks_machine.specs.Decisions.{reached_at}
 use Rattle.assoc_core.specs.Plain.{IsPlainRecord}
-use Rattle.assoc_core.specs.Stands.{Stands, Holds, HoldsTarget}
+use Rattle.assoc_core.specs.Stands.{Holds, HoldsTarget}
 use Rattle.assoc_core.specs.Turns.{PlanStays, SameTarget, outer_of}
 use Rattle.replay_run.specs.Mirrors.{Mirrors, AreSlots, IsGoing, IsSlot, TargetIs, TargetMirrors, record_of, published, seen_by_workers}
 use Rattle.replay_run.specs.Taken.{slot_of}
@@ -119,7 +119,7 @@ slot-still : (n : ℕ) (a : Assoc LinkInMemory) (net net' : NetInMemory) (o : Ou
     → IsGoing n a net o → (t : Turns told_of_link (λ (l : LinkInMemory). l.counts) stands' s 0 (told_of_net net) (told_of_net net') a next) → IsSlot n (slot_of next net') o
 slot-still n a net net' o (Next.Wait a') s stands' h t = still-going n a a' net net' o (Next.Wait a') s stands' h t refl t.goes_on
 slot-still n a net net' o (Next.Again a') s stands' h t = still-going n a a' net net' o (Next.Again a') s stands' h t refl t.goes_on
-slot-still n a net net' o (Next.Done e) s stands' h t = t.goes_on.0
+slot-still n a net net' o (Next.Done e) s stands' h t = t.goes_on
 
 -- ---- the whole
 

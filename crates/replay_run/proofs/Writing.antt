@@ -1,9 +1,8 @@
 -- The line of a turn, and whether nothing came of it, from the totals before and behind it.
-use Rattle.std.proofs.Common.{ℕ, suc, ◌≡◌, ◌+◌, ◌-◌, ◌∙◌, sym, ap, subst, refl, Bool, true, false, ◌&&◌, ◌==◌, Option, None, is_some, List, [], ◌∷◌, ◌++◌, length, arith}
+use Rattle.std.proofs.Common.{ℕ, ◌≡◌, ◌+◌, ◌-◌, ◌∙◌, sym, ap, subst, refl, Bool, true, false, ◌&&◌, ◌==◌, List, [], ◌∷◌, ◌++◌, length, arith}
 use Rattle.net_ends.specs.InMemory.{LinkInMemory}
 use Rattle.socks_machine.specs.declared.record.Record.{Record}
 use Rattle.socks_machine.specs.declared.record.Gram.{Gram}
-use Rattle.socks_machine.specs.declared.cause.StopBy.{StopBy}
 use Rattle.socks_machine.specs.declared.world.NextMark.{NextMark}
 use Rattle.socks_machine.specs.declared.world.TurnEvent.{TurnEvent}
 use Rattle.socks_machine.specs.Equal.{mark_eq}
@@ -13,7 +12,6 @@ use Rattle.socks_machine.specs.Taking.{some_in}
 use Rattle.std.specs.Prelude.{not}
 use Rattle.std.proofs.Math.Dec.{eqb-suc-zero}
 use Rattle.assoc_core.specs.declared.assoc.Next.{Next}
-use Rattle.assoc_core.specs.Turns.{mark_of}
 use Rattle.replay_run.specs.declared.totals.Totals.{Totals}
 use Rattle.replay_run.specs.Shown.{turn_shown}
 use Rattle.replay_run.specs.Taken.{WritesTurn, left_record, mark_of_next}

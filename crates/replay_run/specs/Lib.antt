@@ -1,3 +1,7 @@
+pub mod AtTurn
+pub mod Behind
+pub mod Changes
+pub mod Ends
 pub mod Mirrors
 pub mod Played
 pub mod Shown

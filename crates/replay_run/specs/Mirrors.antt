@@ -1,15 +1,17 @@
 -- What a replay holds, beside the world and the outside of its script.
-use Rattle.std.specs.Prelude.{ℕ, zero, suc, ◌≡◌, ◌≤◌, Bool, true, false, if◌then◌else◌, Option, Some, None, List, [], ◌∷◌, length, map, IsSome}
+use Rattle.std.specs.Prelude.{ℕ, suc, ◌≡◌, ◌≤◌, Bool, true, false, if◌then◌else◌, Option, Some, None, List, [], ◌∷◌, length, map, IsSome}
 use Rattle.addr_pattern.specs.declared.addr.Addr.{Addr}
 use Rattle.addr_pattern.specs.declared.endpoint.Endpoint.{Endpoint}
 use Rattle.conf_model.specs.declared.config.Config.{Config}
 use Rattle.conf_model.specs.Plain.{IsPlain}
+use Rattle.rule_list.specs.Numbers.{FitsNumbers}
 use Rattle.net_ends.specs.InMemory.{LinkInMemory, NetInMemory, told_of_link}
 use Rattle.socks_machine.specs.declared.cause.StopBy.{StopBy}
 use Rattle.socks_machine.specs.declared.lines.Line.{Line}
 use Rattle.socks_machine.specs.declared.record.Record.{Record}
 use Rattle.socks_machine.specs.declared.world.World.{World}
 use Rattle.socks_machine.specs.History.{last_mark}
+use Rattle.socks_machine.specs.Phase.{is_udp}
 use Rattle.socks_machine.specs.Script.{Outside, Surroundings}
 use Rattle.socks_machine.specs.Served.{is_served_input}
 use Rattle.socks_machine.specs.Step.{fresh}
@@ -56,7 +58,7 @@ pub record IsGoing (number : ℕ) (a : Assoc LinkInMemory) (net : NetInMemory) (
 
 abbrev pub IsSlot : ℕ → Slot → Outside → Type 0
 IsSlot number (Slot.Going a net) o = IsGoing number a net o
-IsSlot number (Slot.Over e) o = e.state.done ≡ true
+IsSlot number (Slot.Over e) o = (e.state.done ≡ true) × (is_udp e.state ≡ false) × (e.state.sent_u ≡ [])
 IsSlot number Slot.Away o = ⊥
 
 -- ---- all associations
@@ -103,12 +105,13 @@ AreSides _ _ = ⊥
 
 abbrev pub IsConfigured : Option Config → Type 0
 IsConfigured None = Unit {0}
-IsConfigured (Some config) = IsPlain config
+IsConfigured (Some config) = IsPlain config × FitsNumbers config
 
 -- the reader's state is what was played
 pub record Matches (state : State) (s : Surroundings) (config : Option Config) (seen : Bool) : Type 0 where
   pub published' : state.published ≡ true → IsSome config
   pub unpublished : state.published ≡ false → config ≡ None
+  pub order : seen ≡ true → IsSome config
   pub seen' : state.seen ≡ seen
   pub sides : AreSides state.sides s.outsides
   pub plain : IsConfigured config

@@ -1,5 +1,5 @@
 -- How far a script has been played.
-use Rattle.std.specs.Prelude.{ℕ, ◌≡◌, Bool, true, false, not, Option, Some, None, List, [], ◌∷◌, ◌++◌}
+use Rattle.std.specs.Prelude.{ℕ, ◌≡◌, Bool, true, not, Some, List, ◌++◌}
 use Rattle.std.specs.List.{list_all}
 use Rattle.socks_machine.specs.declared.script.ScriptLine.{ScriptLine}
 use Rattle.socks_machine.specs.declared.world.Event.{Event}

@@ -1,5 +1,5 @@
 -- The lines of a transcript as words that stay whole in the replay's contracts: a number's text is long where it unfolds.
-use Rattle.std.specs.Prelude.{ℕ, Option, Some, List, [], ◌∷◌, codes}
+use Rattle.std.specs.Prelude.{ℕ, Some, List, [], ◌∷◌, codes}
 use Rattle.addr_pattern.specs.AddressText.{number_text}
 use Rattle.socks_machine.specs.declared.record.Record.{Record}
 use Rattle.socks_machine.specs.declared.world.TurnEvent.{TurnEvent}

@@ -1,5 +1,5 @@
 -- A turn that was taken, with its line of the transcript.
-use Rattle.std.specs.Prelude.{ℕ, ◌≡◌, ◌+◌, Bool, false, Option, None, List, [], ◌++◌, length}
+use Rattle.std.specs.Prelude.{ℕ, ◌≡◌, ◌+◌, Bool, false, None, List, [], ◌++◌, length}
 use Rattle.conf_model.specs.declared.config.Config.{Config}
 use Rattle.conf_model.specs.declared.user.User.{User}
 use Rattle.conf_model.specs.Plain.{IsPlain}

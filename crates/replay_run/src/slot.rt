@@ -1,5 +1,10 @@
+ghost use Rattle.std.specs.Prelude.{◌≡◌, IfOk};
+ghost use Rattle.net_ends.specs.Plans.{planned};
+ghost use Rattle.replay_run.specs.Changes.{MayArrive, change_net, change_target, with_arrival, with_client_end, with_plan, with_room, with_target_end};
+
 use assoc_core::{Assoc, Ended};
-use net_ends::{MemLink, MemNet};
+use net_ends::{DialPlan, MemLink, MemNet};
+use std::alloc::AllocError;
 
 /// An association of a replay, with the net that it dials.
 #[derive(Drop)]
@@ -8,4 +13,68 @@ pub enum Slot {
     Over(Ended<MemLink>),
     /// Its turn is being made.
     Away,
+}
+
+/// Room for so many further bytes in the target's link, where it is there, and else in the one that waits in the net.
+fn spare(target: &mut Option<MemLink>, net: &mut MemNet, further: usize) -> Result<(), AllocError>
+    ensures target { IfOk result (λ _. target.new ≡ change_target (with_room further) target.old) }
+    ensures net { IfOk result (λ _. net.new ≡ change_net (with_room further) target.old net.old) }
+{
+    let spared = match target {
+        None => net.spare(further),
+        Some(link) => link.spare(further),
+    };
+    match spared {
+        Ok(()) => Ok(()),
+        Err(_) => Err(AllocError),
+    }
+}
+
+impl Slot {
+    /// Bytes of the client arrive, and the target's link gets room for them.
+    pub fn arrive(&mut self, bytes: &[u8]) -> Result<(), AllocError>
+        requires { MayArrive self.old }
+        ensures { IfOk result (λ _. self.new ≡ with_arrival bytes.now self.old) }
+    {
+        match self {
+            Slot::Going { assoc, net } => match assoc.client.arrive(bytes) {
+                Ok(()) => spare(&mut assoc.target, net, bytes.len()),
+                Err(_) => Err(AllocError),
+            },
+            _ => Ok(()),
+        }
+    }
+
+    /// The client's end stands behind what arrived.
+    pub fn end_client(&mut self)
+        ensures { self.new ≡ with_client_end self.old }
+    {
+        match self {
+            Slot::Going { assoc, net } => assoc.client.end(),
+            _ => {}
+        }
+    }
+
+    /// The target's end stands behind what arrives from it.
+    pub fn end_target(&mut self)
+        ensures { self.new ≡ with_target_end self.old }
+    {
+        match self {
+            Slot::Going { assoc, net } => match &mut assoc.target {
+                None => net.end(),
+                Some(link) => link.end(),
+            },
+            _ => {}
+        }
+    }
+
+    /// The next dial comes out so.
+    pub fn plan(&mut self, outcome: DialPlan)
+        ensures { self.new ≡ with_plan (planned outcome) self.old }
+    {
+        match self {
+            Slot::Going { assoc, net } => net.plan(outcome),
+            _ => {}
+        }
+    }
 }

@@ -73,12 +73,8 @@ pub fn make_turn(
     requires { FitsNumbers config.now }
     ensures { IfOk result (λ next. MakesTurn config.now desk.old desk.new assoc net.old next net.new) }
 {
-    let cap = desk.cap();
     let next = turn(alloc, assoc, 1, config, desk, net, 0)?;
     if desk.mark().is_some() {
-        return Err(AllocError);
-    }
-    if desk.cap() != cap {
         return Err(AllocError);
     }
     Ok(next)

@@ -1,4 +1,4 @@
-use Rattle.std.proofs.Common.{◌≡◌, ◌∙◌, sym, Option, Some, None, is_some, false, Bool}
+use Rattle.std.proofs.Common.{◌≡◌, ◌∙◌, sym, Option, Some, None, is_some, false}
 use Rattle.socks_machine.specs.declared.cause.StopBy.{StopBy}
 use Rattle.replay_run.proofs.turns.make_turn.Goals as goal
 
@@ -8,7 +8,7 @@ unset (Some by) h = cc
 
 pub returns : goal.returns
 returns c = record {
-  cap = sym c.cap.ensures ∙ (c.if-cap.false ∙ c.cap-cap.ensures);
+  cap = c.in_ok-next.ensures.cap;
   mark = sym c.mark.ensures ∙ unset c.mark.result (sym c.is_some.ensures ∙ c.if-is_some.false);
-  turns = c.in_ok-next.ensures;
+  turns = c.in_ok-next.ensures.turns;
 }

@@ -1,5 +1,3 @@
-use Rattle.std.proofs.Common.{◌≡◌, ◌∙◌, ap}
-use Rattle.replay_run.specs.Totals.{totals_of}
 use Rattle.replay_run.proofs.Writing.{writes}
 use Rattle.replay_run.proofs.turns.write_turn.Goals as goal
 

@@ -1,0 +1,394 @@
+-- The lines that change one association: bytes of the client, its end, the target's end, and how a dial is to come out.
+use Rattle.std.proofs.Common.{ℕ, suc, ◌≡◌, ◌<◌, ◌+◌, ◌-◌, ◌∙◌, sym, ap, subst, refl, Bool, true, false, ◌&&◌, not, nat_le, Option, Some, None, List, [], ◌∷◌, ◌++◌, length, map, arith, append_assoc, append-nil, length-append, slice_set}
+use Rattle.std.proofs.lemmas.Bool.{and_parts, not-true}
+use Rattle.std.proofs.lemmas.List.{length-set}
+use Rattle.std.specs.Prelude.{slice_get}
+use mathlib.Core.List.{IsPrefix}
+use Rattle.conf_model.specs.declared.config.Config.{Config}
+use Rattle.net_ends.specs.InMemory.{LinkInMemory, NetInMemory, told_of_link}
+use Rattle.net_ends.specs.Nets.{DialOutcome}
+use Rattle.net_ends.specs.Told.{Told, Arrival}
+use Rattle.session_desk.specs.Standings.{StandsFor}
+use Rattle.socks_machine.specs.declared.record.Record.{Record}
+use Rattle.socks_machine.specs.declared.script.ScriptLine.{ScriptLine}
+use Rattle.socks_machine.specs.declared.world.Outer.{Outer}
+use Rattle.socks_machine.specs.declared.world.World.{World}
+use Rattle.socks_machine.specs.Script.{Outside, Surroundings, change, change_at, is_silent, outside_after}
+use Rattle.socks_machine.specs.Served.{is_served_input}
+use Rattle.assoc_core.specs.declared.assoc.Assoc.{Assoc}
+use Rattle.assoc_core.specs.Stands.{Holds, HoldsTarget, EndsBehind, GivesFirst}
+use Rattle.assoc_core.specs.Turns.{outer_of}
+use Rattle.replay_script.specs.declared.state.Side.{Side}
+use Rattle.replay_script.specs.declared.state.State.{State}
+use Rattle.replay_script.specs.Conditions.{after, change_side, may_send, may_end, on_side, side_of, with_side}
+use Rattle.replay_run.specs.declared.slot.Slot.{Slot}
+use Rattle.replay_run.specs.declared.state.Replay.{Replay}
+use Rattle.replay_run.specs.Behind.{IsBehind, IsDue}
+use Rattle.replay_run.specs.Changes.{MayArrive, change_net, change_target, with_arrival, with_bytes, with_client_end, with_end, with_outcome, with_plan, with_room, with_target_end}
+use Rattle.replay_run.specs.Mirrors.{IsGoing, IsSlot, Matches, Mirrors, TargetIs, TargetMirrors, record_of}
+use Rattle.replay_run.specs.Played.{Played}
+use Rattle.replay_run.proofs.Places.{IsPlace, IsSide, placed, place-within, sides-set}
+use Rattle.replay_run.proofs.Playing.{plays-silent}
+use Rattle.replay_run.proofs.Slots.{get-map-at, map-set-at, set-same, set-set, slots-set}
+
+-- ---- a link at which more arrives
+
+arrived-are : (bytes : List ℕ) (ends : Bool) (arrival : Arrival) → Some (record { bytes = bytes; ends = ends }) ≡ Some arrival → bytes ≡ arrival.bytes
+arrived-are bytes ends arrival h = cc
+
+holds-bytes : (bytes : List ℕ) (l : LinkInMemory) (c sent : List ℕ) (ended shut : Bool) → Holds (told_of_link l) c sent ended shut
+    → Holds (told_of_link (with_bytes bytes l)) c sent ended shut
+holds-bytes bytes l c sent ended shut h = record { given' = h.given'; taken' = h.taken'; ended' = h.ended'; shut' = h.shut' }
+
+holds-end : (l : LinkInMemory) (c sent : List ℕ) (ended shut : Bool) → Holds (told_of_link l) c sent ended shut → Holds (told_of_link (with_end l)) c sent ended shut
+holds-end l c sent ended shut h = record { given' = h.given'; taken' = h.taken'; ended' = h.ended'; shut' = h.shut' }
+
+holds-room : (n : ℕ) (l : LinkInMemory) (c sent : List ℕ) (ended shut : Bool) → Holds (told_of_link l) c sent ended shut → Holds (told_of_link (with_room n l)) c sent ended shut
+holds-room n l c sent ended shut h = record { given' = h.given'; taken' = h.taken'; ended' = h.ended'; shut' = h.shut' }
+
+-- a link whose end hasn't come has not ended
+ends-none : (l : LinkInMemory) (told : Told) → told.ended ≡ l.ended → l.ends ≡ false → EndsBehind (told_of_link l) → EndsBehind told
+ends-none l told same unended h = λ arrival given a g e.
+    let t : l.ends ≡ true = (h (record { bytes = l.arrived; ends = l.ends }) l.given refl refl (sym same ∙ e)).1 in cc
+
+first-of : (given arrived more all : List ℕ) → IsPrefix given arrived → arrived ++ more ≡ all → IsPrefix given all
+first-of given arrived more all h k = (h.0 ++ more, sym (append_assoc given h.0 more) ∙ (ap (λ z. z ++ more) h.1 ∙ k))
+
+gives-bytes : (bytes : List ℕ) (l : LinkInMemory) → GivesFirst (told_of_link l) → GivesFirst (told_of_link (with_bytes bytes l))
+gives-bytes bytes l h = λ arrival given a g. first-of given l.arrived bytes arrival.bytes (h (record { bytes = l.arrived; ends = l.ends }) given refl g)
+    (arrived-are (l.arrived ++ bytes) l.ends arrival a)
+
+gives-end : (l : LinkInMemory) → GivesFirst (told_of_link l) → GivesFirst (told_of_link (with_end l))
+gives-end l h = λ arrival given a g. first-of given l.arrived [] arrival.bytes (h (record { bytes = l.arrived; ends = l.ends }) given refl g)
+    (append-nil l.arrived ∙ arrived-are l.arrived true arrival a)
+
+-- ---- an association that goes on
+
+-- bytes of the client, with room for them at the target
+is-room : (bytes : List ℕ) (link : LinkInMemory) (o : Outside) → TargetIs link o → TargetIs (with_room (length bytes) link) (record o { c = o.c ++ bytes })
+is-room bytes link o h = record {
+  arrived = h.arrived;
+  ends = h.ends;
+  unfailing = h.unfailing;
+  cap = let e = length-append o.c bytes in let k = h.cap in omega arith;
+}
+
+mirrors-room : (bytes : List ℕ) (t : Option LinkInMemory) (net : NetInMemory) (o : Outside) → TargetMirrors t net o
+    → TargetMirrors (change_target (with_room (length bytes)) t) (change_net (with_room (length bytes)) t net) (record o { c = o.c ++ bytes })
+mirrors-room bytes None net o h = (is-room bytes net.link o h.0, h.1)
+mirrors-room bytes (Some link) net o h = is-room bytes link o h
+
+target-room : (n : ℕ) (r : Record) (t : Option LinkInMemory) → HoldsTarget told_of_link r t → HoldsTarget told_of_link r (change_target (with_room n) t)
+target-room n r None h = h
+target-room n r (Some link) h = (h.0, holds-room n link r.t r.sent_t r.end_t r.shut_t h.1, h.2, h.3)
+
+going-arrives : (number : ℕ) (bytes : List ℕ) (a : Assoc LinkInMemory) (net : NetInMemory) (o : Outside) → IsGoing number a net o → o.end_c ≡ false
+    → is_served_input (o.c ++ bytes) ≡ true → IsSlot number (with_arrival bytes (Slot.Going a net)) (record o { c = o.c ++ bytes })
+going-arrives number bytes a net o h unended served = record {
+  number' = h.number';
+  since = h.since;
+  stands = record {
+    plain = h.stands.plain;
+    client = holds-bytes bytes a.client a.state.c a.state.sent_c a.state.end_c a.state.shut_c h.stands.client;
+    client_ends = ends-none a.client (told_of_link (with_bytes bytes a.client)) refl (h.ends ∙ unended) h.stands.client_ends;
+    client_first = gives-bytes bytes a.client h.stands.client_first;
+    target = target-room (length bytes) a.state a.target h.stands.target;
+  };
+  arrived = ap (λ z. z ++ bytes) h.arrived;
+  ends = h.ends;
+  unfailing = h.unfailing;
+  cap = h.cap;
+  served = served;
+  target = mirrors-room bytes a.target net o h.target;
+  quiet = record { t = h.quiet.t; grams = h.quiet.grams; peer = h.quiet.peer; no_room = h.quiet.no_room; faults = h.quiet.faults };
+}
+
+-- the client's end
+mirrors-closed : (t : Option LinkInMemory) (net : NetInMemory) (o : Outside) → TargetMirrors t net o → TargetMirrors t net (record o { end_c = true })
+mirrors-closed None net o h = (record { arrived = h.0.arrived; ends = h.0.ends; unfailing = h.0.unfailing; cap = h.0.cap }, h.1)
+mirrors-closed (Some link) net o h = record { arrived = h.arrived; ends = h.ends; unfailing = h.unfailing; cap = h.cap }
+
+going-ends : (number : ℕ) (a : Assoc LinkInMemory) (net : NetInMemory) (o : Outside) → IsGoing number a net o → o.end_c ≡ false
+    → IsSlot number (with_client_end (Slot.Going a net)) (record o { end_c = true })
+going-ends number a net o h unended = record {
+  number' = h.number';
+  since = h.since;
+  stands = record {
+    plain = h.stands.plain;
+    client = holds-end a.client a.state.c a.state.sent_c a.state.end_c a.state.shut_c h.stands.client;
+    client_ends = ends-none a.client (told_of_link (with_end a.client)) refl (h.ends ∙ unended) h.stands.client_ends;
+    client_first = gives-end a.client h.stands.client_first;
+    target = h.stands.target;
+  };
+  arrived = h.arrived;
+  ends = refl;
+  unfailing = h.unfailing;
+  cap = h.cap;
+  served = h.served;
+  target = mirrors-closed a.target net o h.target;
+  quiet = record { t = h.quiet.t; grams = h.quiet.grams; peer = h.quiet.peer; no_room = h.quiet.no_room; faults = h.quiet.faults };
+}
+
+-- the target's end
+is-end : (link : LinkInMemory) (o : Outside) → TargetIs link o → TargetIs (with_end link) (record o { end_t = true })
+is-end link o h = record { arrived = h.arrived; ends = refl; unfailing = h.unfailing; cap = h.cap }
+
+mirrors-end : (t : Option LinkInMemory) (net : NetInMemory) (o : Outside) → TargetMirrors t net o
+    → TargetMirrors (change_target with_end t) (change_net with_end t net) (record o { end_t = true })
+mirrors-end None net o h = (is-end net.link o h.0, h.1)
+mirrors-end (Some link) net o h = is-end link o h
+
+target-end : (r : Record) (t : Option LinkInMemory) (net : NetInMemory) (o : Outside) → TargetMirrors t net o → o.end_t ≡ false → HoldsTarget told_of_link r t
+    → HoldsTarget told_of_link r (change_target with_end t)
+target-end r None net o m unended h = h
+target-end r (Some link) net o m unended h = (
+  h.0,
+  holds-end link r.t r.sent_t r.end_t r.shut_t h.1,
+  ends-none link (told_of_link (with_end link)) refl (m.ends ∙ unended) h.2,
+  gives-end link h.3,
+)
+
+going-target-ends : (number : ℕ) (a : Assoc LinkInMemory) (net : NetInMemory) (o : Outside) → IsGoing number a net o → o.end_t ≡ false
+    → IsSlot number (with_target_end (Slot.Going a net)) (record o { end_t = true })
+going-target-ends number a net o h unended = record {
+  number' = h.number';
+  since = h.since;
+  stands = record {
+    plain = h.stands.plain;
+    client = h.stands.client;
+    client_ends = h.stands.client_ends;
+    client_first = h.stands.client_first;
+    target = target-end a.state a.target net o h.target unended h.stands.target;
+  };
+  arrived = h.arrived;
+  ends = h.ends;
+  unfailing = h.unfailing;
+  cap = h.cap;
+  served = h.served;
+  target = mirrors-end a.target net o h.target;
+  quiet = record { t = h.quiet.t; grams = h.quiet.grams; peer = h.quiet.peer; no_room = h.quiet.no_room; faults = h.quiet.faults };
+}
+
+-- how the next dial comes out
+is-plan : (link : LinkInMemory) (o : Outside) (outer : Outer) → TargetIs link o → TargetIs link (record o { dial = outer })
+is-plan link o outer h = record { arrived = h.arrived; ends = h.ends; unfailing = h.unfailing; cap = h.cap }
+
+mirrors-plan : (outcome : DialOutcome) (outer : Outer) (t : Option LinkInMemory) (net : NetInMemory) (o : Outside) → outer_of outcome ≡ outer → TargetMirrors t net o
+    → TargetMirrors t (with_outcome outcome net) (record o { dial = outer })
+mirrors-plan outcome outer None net o same h = (is-plan net.link o outer h.0, same)
+mirrors-plan outcome outer (Some link) net o same h = is-plan link o outer h
+
+going-planned : (number : ℕ) (outcome : DialOutcome) (outer : Outer) (a : Assoc LinkInMemory) (net : NetInMemory) (o : Outside) → outer_of outcome ≡ outer
+    → IsGoing number a net o → IsSlot number (with_plan outcome (Slot.Going a net)) (record o { dial = outer })
+going-planned number outcome outer a net o same h = record {
+  number' = h.number';
+  since = h.since;
+  stands = h.stands;
+  arrived = h.arrived;
+  ends = h.ends;
+  unfailing = h.unfailing;
+  cap = h.cap;
+  served = h.served;
+  target = mirrors-plan outcome outer a.target net o same h.target;
+  quiet = record { t = h.quiet.t; grams = h.quiet.grams; peer = h.quiet.peer; no_room = h.quiet.no_room; faults = h.quiet.faults };
+}
+
+-- ---- the place of a line's association
+
+pub place-of : (l : ScriptLine) (config : Option Config) (r : Replay) (number : ℕ) (test : Side → Bool) (d : IsDue l config r)
+    → on_side (side_of d.state number) test ≡ true → IsPlace number test d.state.sides d.behind.s.outsides r.slots
+place-of l config r number test d h = placed d.state number test d.behind.s.outsides r.slots d.behind.matches.sides d.behind.mirrors.slots' h
+
+pub place-there : (number : ℕ) (test : Side → Bool) (sides : List Side) (os : List Outside) (slots : List Slot) → IsPlace number test sides os slots → number - 1 < length slots
+place-there number test sides os slots p = let h = place-within slots p.k p.slot p.slot-at in let e = p.number' in omega arith
+
+pub still-there : (slots new : List Slot) (at : ℕ) (slot : Slot) → at < length slots → new ≡ slice_set slots at slot → at < length new
+still-there slots new at slot h e = let k = length-set slots at slot in let m = ap length e in omega arith
+
+-- the association is taken out, changed and put back
+pub put-back : (old away new : List Slot) (at : ℕ) (slot gone changed : Slot) (f : Slot → Slot) → slice_get old at ≡ Some slot → away ≡ slice_set old at gone → changed ≡ f slot
+    → new ≡ slice_set away at changed → (x : Slot) → slice_get old at ≡ Some x → new ≡ slice_set old at (f x)
+put-back old away new at slot gone changed f found out is back x there =
+    back ∙ (ap (λ z. slice_set z at changed) out
+    ∙ (set-set old at gone changed ∙ (ap (slice_set old at) is ∙ ap (λ z. slice_set old at (f z)) same)))
+  where
+    same : slot ≡ x
+    same = cc
+
+-- ---- a line that changes one association
+
+-- what it changes outside, in the reader's state and in the replay
+pub record Changes (l : ScriptLine) (number : ℕ) (test : Side → Bool) (outside : Outside → Outside) (side : Side → Side) (slot : Slot → Slot) : Type 0 where
+  pub silent : (w : World) → is_silent w l ≡ true
+  pub outside' : (s : Surroundings) → outside_after s l ≡ change s number outside
+  pub state' : (state : State) → after state l ≡ change_side state number side
+  pub is : (x : Side) (o : Outside) → IsSide x o → IsSide (side x) (outside o)
+  pub stands : (n : ℕ) (x : Side) (o : Outside) (y : Slot) → IsSide x o → test x ≡ true → IsSlot n y o → IsSlot n (slot y) (outside o)
+  pub record' : (y : Slot) → record_of (slot y) ≡ record_of y
+
+outside-changed : (s : Surroundings) (number k : ℕ) (f : Outside → Outside) (o : Outside) → number ≡ suc k → slice_get s.outsides k ≡ Some o
+    → change s number f ≡ record s { outsides = slice_set s.outsides k (f o) }
+outside-changed s number k f o n at = ap (λ m. change s m f) n ∙ ap (change_at s (suc k) f) at
+
+state-changed : (state : State) (number k : ℕ) (f : Side → Side) (x : Side) → number ≡ suc k → slice_get state.sides k ≡ Some x
+    → change_side state number f ≡ record state { sides = slice_set state.sides k (f x) }
+state-changed state number k f x n at = ap (λ m. change_side state m f) n ∙ (ap (with_side state (suc k) f) at
+    ∙ ap (λ (m : ℕ). let y : State = record state { sides = slice_set state.sides m (f x) } in y) (omega arith))
+
+records-same : (slots : List Slot) (k : ℕ) (x y : Slot) → slice_get slots k ≡ Some x → record_of y ≡ record_of x → map record_of (slice_set slots k y) ≡ map record_of slots
+records-same slots k x y at same = map-set-at record_of slots k y
+    ∙ (ap (λ (r : Record). slice_set (map record_of slots) k r) same ∙ set-same (map record_of slots) k (record_of x) (get-map-at record_of slots k x at))
+
+pub changed : (script lines : List ScriptLine) (state : State) (config : Option Config) (old : Replay) (slots : List Slot) (l : ScriptLine) (number : ℕ) (test : Side → Bool)
+    (outside : Outside → Outside) (side : Side → Side) (slot : Slot → Slot) → Changes l number test outside side slot → on_side (side_of state number) test ≡ true
+    → ((x : Slot) → slice_get old.slots (number - 1) ≡ Some x → slots ≡ slice_set old.slots (number - 1) (slot x))
+    → IsBehind script lines state config old → IsBehind script (lines ++ l ∷ []) (after state l) config (record old { slots = slots })
+changed script lines state config old slots l number test outside side slot h allowed written b = record {
+  s = s;
+  w = b.w;
+  played = subst (λ (z : Surroundings). Played script (lines ++ l ∷ []) z b.w old.out) (h.outside' b.s ∙ outside-changed b.s number p.k outside p.o p.number' p.outside-at)
+      (plays-silent script lines b.s b.w old.out l b.played (h.silent b.w));
+  mirrors = subst (λ (z : List Slot). Mirrors (StandsFor old.desk) old.desk.cap s b.w config old.seen z) (sym there) (record {
+    now = b.mirrors.now;
+    users = b.mirrors.users;
+    pubs = b.mirrors.pubs;
+    seen' = b.mirrors.seen';
+    records = b.mirrors.records ∙ sym (records-same old.slots p.k p.slot (slot p.slot) p.slot-at (h.record' p.slot));
+    slots' = slots-set 1 old.slots b.s.outsides p.k (slot p.slot) (outside p.o) b.mirrors.slots'
+        (subst (λ (n : ℕ). IsSlot n (slot p.slot) (outside p.o)) (omega arith) (h.stands (suc p.k) p.side p.o p.slot p.is p.passes p.stands));
+    desk = b.mirrors.desk;
+    cap' = b.mirrors.cap';
+    marks = b.mirrors.marks;
+  });
+  matches = subst (λ (z : State). Matches z s config old.seen) (sym (h.state' state ∙ state-changed state number p.k side p.side p.number' p.side-at)) (record {
+    published' = b.matches.published';
+    unpublished = b.matches.unpublished;
+    order = b.matches.order;
+    seen' = b.matches.seen';
+    sides = sides-set state.sides b.s.outsides p.k (side p.side) (outside p.o) b.matches.sides (h.is p.side p.o p.is);
+    plain = b.matches.plain;
+  });
+}
+  where
+    p : IsPlace number test state.sides b.s.outsides old.slots
+    p = placed state number test b.s.outsides old.slots b.matches.sides b.mirrors.slots' allowed
+
+    s : Surroundings
+    s = record b.s { outsides = slice_set b.s.outsides p.k (outside p.o) }
+
+    at : number - 1 ≡ p.k
+    at = let e = p.number' in omega arith
+
+    there : slots ≡ slice_set old.slots p.k (slot p.slot)
+    there = subst (λ (n : ℕ). slots ≡ slice_set old.slots n (slot p.slot)) at
+        (written p.slot (subst (λ (n : ℕ). slice_get old.slots n ≡ Some p.slot) (sym at) p.slot-at))
+
+-- ---- the four lines
+
+pub send-allowed : (bytes : List ℕ) (x : Side) → may_send bytes x ≡ true → (x.end_c ≡ false) × (is_served_input (x.c ++ bytes) ≡ true)
+send-allowed bytes x h =
+    let e = and_parts (not x.end_c && nat_le (length x.c + length bytes) 65535) (is_served_input (x.c ++ bytes)) h in
+    (not-true x.end_c (and_parts (not x.end_c) (nat_le (length x.c + length bytes) 65535) e.0).0, e.1)
+
+pub client-changes : (number : ℕ) (bytes : List ℕ)
+    → Changes (ScriptLine.Client number bytes) number (may_send bytes) (λ o. record o { c = o.c ++ bytes }) (λ x. record x { c = x.c ++ bytes }) (with_arrival bytes)
+client-changes number bytes = record {
+  silent = λ w. refl;
+  outside' = λ s. refl;
+  state' = λ state. refl;
+  is = λ x o i. (ap (λ z. z ++ bytes) i.0, i.1, i.2);
+  stands = by-slot;
+  record' = by-record;
+}
+  where
+    by-slot : (n : ℕ) (x : Side) (o : Outside) (y : Slot) → IsSide x o → may_send bytes x ≡ true → IsSlot n y o → IsSlot n (with_arrival bytes y) (record o { c = o.c ++ bytes })
+    by-slot n x o (Slot.Going a net) i t h = let e = send-allowed bytes x t in
+        going-arrives n bytes a net o h (sym i.1 ∙ e.0) (subst (λ (z : List ℕ). is_served_input (z ++ bytes) ≡ true) i.0 e.1)
+    by-slot n x o (Slot.Over e) i t h = h
+    by-slot n x o Slot.Away i t h = absurd h
+
+    by-record : (y : Slot) → record_of (with_arrival bytes y) ≡ record_of y
+    by-record (Slot.Going a net) = refl
+    by-record (Slot.Over e) = refl
+    by-record Slot.Away = refl
+
+pub client-end-changes : (number : ℕ) → Changes (ScriptLine.ClientEnd number) number may_end (λ o. record o { end_c = true }) (λ x. record x { end_c = true }) with_client_end
+client-end-changes number = record {
+  silent = λ w. refl;
+  outside' = λ s. refl;
+  state' = λ state. refl;
+  is = λ x o i. (i.0, refl, i.2);
+  stands = by-slot;
+  record' = by-record;
+}
+  where
+    by-slot : (n : ℕ) (x : Side) (o : Outside) (y : Slot) → IsSide x o → may_end x ≡ true → IsSlot n y o → IsSlot n (with_client_end y) (record o { end_c = true })
+    by-slot n x o (Slot.Going a net) i t h = going-ends n a net o h (sym i.1 ∙ not-true x.end_c (and_parts (not x.end_c) _ t).0)
+    by-slot n x o (Slot.Over e) i t h = h
+    by-slot n x o Slot.Away i t h = absurd h
+
+    by-record : (y : Slot) → record_of (with_client_end y) ≡ record_of y
+    by-record (Slot.Going a net) = refl
+    by-record (Slot.Over e) = refl
+    by-record Slot.Away = refl
+
+pub target-end-changes : (number : ℕ)
+    → Changes (ScriptLine.TargetEnd number) number (λ x. not x.end_t) (λ o. record o { end_t = true }) (λ x. record x { end_t = true }) with_target_end
+target-end-changes number = record {
+  silent = λ w. refl;
+  outside' = λ s. refl;
+  state' = λ state. refl;
+  is = λ x o i. (i.0, i.1, refl);
+  stands = by-slot;
+  record' = by-record;
+}
+  where
+    by-slot : (n : ℕ) (x : Side) (o : Outside) (y : Slot) → IsSide x o → not x.end_t ≡ true → IsSlot n y o → IsSlot n (with_target_end y) (record o { end_t = true })
+    by-slot n x o (Slot.Going a net) i t h = going-target-ends n a net o h (sym i.2 ∙ not-true x.end_t t)
+    by-slot n x o (Slot.Over e) i t h = h
+    by-slot n x o Slot.Away i t h = absurd h
+
+    by-record : (y : Slot) → record_of (with_target_end y) ≡ record_of y
+    by-record (Slot.Going a net) = refl
+    by-record (Slot.Over e) = refl
+    by-record Slot.Away = refl
+
+pub dial-changes : (number : ℕ) (outer : Outer) (outcome : DialOutcome) → outer_of outcome ≡ outer
+    → Changes (ScriptLine.Dial number outer) number (λ x. not x.dialled) (λ o. record o { dial = outer }) (λ x. record x { dialled = true }) (with_plan outcome)
+dial-changes number outer outcome same = record {
+  silent = λ w. refl;
+  outside' = λ s. refl;
+  state' = λ state. refl;
+  is = λ x o i. i;
+  stands = by-slot;
+  record' = by-record;
+}
+  where
+    by-slot : (n : ℕ) (x : Side) (o : Outside) (y : Slot) → IsSide x o → not x.dialled ≡ true → IsSlot n y o → IsSlot n (with_plan outcome y) (record o { dial = outer })
+    by-slot n x o (Slot.Going a net) i t h = going-planned n outcome outer a net o same h
+    by-slot n x o (Slot.Over e) i t h = h
+    by-slot n x o Slot.Away i t h = absurd h
+
+    by-record : (y : Slot) → record_of (with_plan outcome y) ≡ record_of y
+    by-record (Slot.Going a net) = refl
+    by-record (Slot.Over e) = refl
+    by-record Slot.Away = refl
+
+-- more can arrive from the client at the place of its line
+pub may-arrive : (number : ℕ) (bytes : List ℕ) (sides : List Side) (os : List Outside) (slots : List Slot) → IsPlace number (may_send bytes) sides os slots
+    → (slot : Slot) → slice_get slots (number - 1) ≡ Some slot → MayArrive slot
+may-arrive number bytes sides os slots p slot found = subst MayArrive same (by-slot p.slot p.stands)
+  where
+    at : number - 1 ≡ p.k
+    at = let e = p.number' in omega arith
+
+    found' : slice_get slots p.k ≡ Some slot
+    found' = subst (λ (n : ℕ). slice_get slots n ≡ Some slot) at found
+
+    same : p.slot ≡ slot
+    same = cc (p.slot-at, found')
+
+    by-slot : (y : Slot) → IsSlot (suc p.k) y p.o → MayArrive y
+    by-slot (Slot.Going a net) h = h.ends ∙ (sym p.is.1 ∙ (send-allowed bytes p.side p.passes).0)
+    by-slot (Slot.Over e) h = tt
+    by-slot Slot.Away h = absurd h

@@ -1,0 +1,59 @@
+-- What became of each association, where all of a script was played.
+use Rattle.std.proofs.Common.{ℕ, suc, ◌≡◌, ◌∙◌, sym, ap, subst, refl, List, [], ◌∷◌, ◌++◌, map, Result, Ok, Err}
+use Rattle.std.specs.Prelude.{flat_map, IfOk}
+use Rattle.socks_machine.specs.declared.record.Record.{Record}
+use Rattle.socks_machine.specs.declared.script.ScriptLine.{ScriptLine}
+use Rattle.socks_machine.specs.declared.world.World.{World}
+use Rattle.socks_machine.specs.Basis.{Basis}
+use Rattle.socks_machine.specs.Follows.{IsReplay}
+use Rattle.socks_machine.specs.Script.{Outside}
+use Rattle.socks_machine.specs.Step.{basis_of}
+use Rattle.socks_machine.specs.Transcript.{ends, ends_of}
+use Rattle.assoc_core.proofs.RelayRecords.{plain-tcp}
+use Rattle.replay_run.specs.declared.slot.Slot.{Slot}
+use Rattle.replay_run.specs.declared.state.Replay.{Replay}
+use Rattle.replay_run.specs.Behind.{IsPlayedOut}
+use Rattle.replay_run.specs.Ends.{AreUngrammed, IsUngrammed, all_ends}
+use Rattle.replay_run.specs.Mirrors.{AreSlots, IsSlot, record_of}
+use Rattle.replay_run.specs.Shown.{ends_shown}
+
+shown-ends : (basis : Basis) (r : Record) → ends_shown basis r ≡ ends_of basis r
+unfolding ends_shown
+shown-ends basis r = refl
+
+slots-ends : (basis : Basis) (slots : List Slot) → all_ends basis slots ≡ flat_map (ends_of basis) (map record_of slots)
+slots-ends basis [] = refl
+slots-ends basis (slot ∷ slots) = ap (λ (z : List ℕ). z ++ all_ends basis slots) (shown-ends basis (record_of slot))
+    ∙ ap (λ (z : List ℕ). ends_of basis (record_of slot) ++ z) (slots-ends basis slots)
+
+-- the associations of the replay are those of the world
+world-ends : (w : World) (slots : List Slot) → w.records ≡ map record_of slots → all_ends (basis_of w) slots ≡ ends w
+world-ends w slots h = slots-ends (basis_of w) slots ∙ ap (flat_map (ends_of (basis_of w))) (sym h)
+
+slot-ungrammed : (number : ℕ) (slot : Slot) (o : Outside) → IsSlot number slot o → IsUngrammed slot
+slot-ungrammed number (Slot.Going a net) o h = (plain-tcp a.state h.stands.plain, h.stands.plain.sent_u)
+slot-ungrammed number (Slot.Over e) o h = (h.1, h.2)
+slot-ungrammed number Slot.Away o h = h
+
+slots-ungrammed : (number : ℕ) (slots : List Slot) (os : List Outside) → AreSlots number slots os → AreUngrammed slots
+slots-ungrammed number [] os h = tt
+slots-ungrammed number (slot ∷ slots) [] h = absurd h
+slots-ungrammed number (slot ∷ slots) (o ∷ os) h = (slot-ungrammed number slot o h.0, slots-ungrammed (suc number) slots os h.1)
+
+-- with what became of each association, the transcript is whole
+pub is-whole : (script : List ScriptLine) (r : Replay) (out : List ℕ) → IsPlayedOut script r
+    → (AreUngrammed r.slots → (basis : Basis) → out ≡ r.out ++ all_ends basis r.slots) → (world : World) × IsReplay script world out
+is-whole script r out played written = (
+  played.w,
+  subst (IsReplay script played.w)
+      (sym (written (slots-ungrammed 1 r.slots (played.s).outsides (played.mirrors).slots') (basis_of played.w)
+      ∙ ap (λ (z : List ℕ). r.out ++ z) (world-ends played.w r.slots (played.mirrors).records))) played.done,
+)
+
+-- the same, where it was written
+pub is-whole-where : {A E : Type 0} (script : List ScriptLine) (r : Replay) (slots : List Slot) (out : List ℕ) (result : Result A E) → IsPlayedOut script r
+    → slots ≡ r.slots → IfOk result (λ _. AreUngrammed slots → (basis : Basis) → out ≡ r.out ++ all_ends basis slots)
+    → IfOk result (λ _. (world : World) × IsReplay script world out)
+is-whole-where script r slots out (Ok x) played same written =
+    is-whole script r out played (subst (λ (z : List Slot). AreUngrammed z → (basis : Basis) → out ≡ r.out ++ all_ends basis z) same written)
+is-whole-where script r slots out (Err e) played same written = tt

@@ -1,0 +1,111 @@
+-- The line `turn` of a script.
+use Rattle.std.proofs.Common.{ℕ, suc, ◌≡◌, ◌<◌, ◌-◌, ◌∙◌, sym, ap, subst, refl, Bool, true, false, ◌&&◌, Option, Some, None, List, [], ◌∷◌, ◌++◌, length, map, arith}
+use Rattle.std.specs.Prelude.{slice_get}
+use Rattle.conf_model.specs.declared.config.Config.{Config}
+use Rattle.socks_machine.specs.declared.record.Record.{Record}
+use Rattle.socks_machine.specs.declared.script.ScriptLine.{ScriptLine}
+use Rattle.socks_machine.specs.declared.world.Event.{Event}
+use Rattle.socks_machine.specs.declared.world.World.{World}
+use Rattle.socks_machine.specs.Script.{Outside, Surroundings, is_over, is_silent}
+use Rattle.socks_machine.specs.Transcript.{event_line}
+use Rattle.replay_script.specs.declared.state.Side.{Side}
+use Rattle.replay_script.specs.declared.state.State.{State}
+use Rattle.replay_script.specs.Conditions.{allows}
+use Rattle.replay_run.specs.declared.slot.Slot.{Slot}
+use Rattle.replay_run.specs.declared.state.Replay.{Replay}
+use Rattle.replay_run.specs.AtTurn.{IsTurned, TurnsAt}
+use Rattle.replay_run.specs.Behind.{GoesBehind, IsBehind, IsDue}
+use Rattle.replay_run.specs.Mirrors.{IsSlot, Matches, record_of}
+use Rattle.replay_run.specs.Played.{Played}
+use Rattle.replay_run.proofs.Places.{IsPlace, placed, place-within}
+use Rattle.replay_run.proofs.Playing.{plays-event, plays-silent}
+use Rattle.replay_run.proofs.Slots.{get-map-at}
+
+both : (a b : Bool) → a && b ≡ true → (a ≡ true) × (b ≡ true)
+both true true h = (refl, refl)
+both true false h = cc
+both false b h = cc
+
+abbrev any_side : Side → Bool
+any_side side = true
+
+place-of : (number : ℕ) (script lines : List ScriptLine) (state : State) (config : Option Config) (r : Replay) → allows state (ScriptLine.Turn 1 number) ≡ true
+    → (b : IsBehind script lines state config r) → IsPlace number any_side state.sides (b.s).outsides r.slots
+place-of number script lines state config r allowed b =
+    placed state number any_side (b.s).outsides r.slots (b.matches).sides (b.mirrors).slots' (both state.seen _ allowed).1
+
+-- the association that takes its turn is there
+pub turn-within : (number : ℕ) (config : Option Config) (r : Replay) → IsDue (ScriptLine.Turn 1 number) config r → number - 1 < length r.slots
+turn-within number config r due =
+    let p = place-of number due.script due.lines due.state config r due.allowed due.behind in
+    let within = place-within r.slots p.k p.slot p.slot-at in
+    let is = p.number' in
+    omega (arith, within, is)
+
+-- ---- a turn that happens
+
+happens : (script lines : List ScriptLine) (state : State) (config : Config) (old new : Replay) (still : Bool) (k : ℕ)
+    → (b : IsBehind script lines state (Some config) old) → is_silent b.w (ScriptLine.Turn 1 (suc k)) ≡ false → IsTurned b.s b.w config k old new still
+    → IsBehind script (lines ++ ScriptLine.Turn 1 (suc k) ∷ []) state (Some config) new
+happens script lines state config old new still k b loud t = record {
+  s = b.s;
+  w = t.world;
+  played = subst (λ (out : List ℕ). Played script (lines ++ ScriptLine.Turn 1 (suc k) ∷ []) b.s t.world out)
+      (ap (λ (z : List ℕ). old.out ++ z) t.line ∙ sym t.out)
+      (subst (λ (s : Surroundings). Played script (lines ++ ScriptLine.Turn 1 (suc k) ∷ []) s t.world (old.out ++ event_line t.world (Event.Turn t.ev))) t.used
+      (plays-event script lines b.s b.w t.world old.out (ScriptLine.Turn 1 (suc k)) (Event.Turn t.ev) [] b.played loud (t.ev, refl, t.is_turn) t.stepped t.over));
+  mirrors = t.mirrors;
+  matches = subst (λ (seen : Bool). Matches state b.s (Some config) seen) (sym t.seen) b.matches;
+}
+
+rests : (script lines : List ScriptLine) (state : State) (config : Option Config) (old : Replay) (number : ℕ)
+    → (b : IsBehind script lines state config old) → is_silent b.w (ScriptLine.Turn 1 number) ≡ true
+    → IsBehind script (lines ++ ScriptLine.Turn 1 number ∷ []) state config old
+rests script lines state config old number b silent = record {
+  s = b.s;
+  w = b.w;
+  played = plays-silent script lines b.s b.w old.out (ScriptLine.Turn 1 number) b.played silent;
+  mirrors = b.mirrors;
+  matches = b.matches;
+}
+
+silent-as : (w : World) (slots : List Slot) (k : ℕ) (slot : Slot) → w.records ≡ map record_of slots → slice_get slots k ≡ Some slot
+    → is_silent w (ScriptLine.Turn 1 (suc k)) ≡ (record_of slot).done
+silent-as w slots k slot records at = ap is_over (ap (λ (z : List Record). slice_get z k) records ∙ get-map-at record_of slots k slot at)
+
+-- whether an association that is there goes on
+abbrev GoesOrOver : Slot → Type 0
+GoesOrOver (Slot.Going a net) = (a.state).done ≡ false
+GoesOrOver (Slot.Over e) = (e.state).done ≡ true
+GoesOrOver Slot.Away = ⊥
+
+goes-or-over : (number : ℕ) (slot : Slot) (o : Outside) → IsSlot number slot o → GoesOrOver slot
+goes-or-over number (Slot.Going a net) o h = (h.stands).plain.undone
+goes-or-over number (Slot.Over e) o h = h.0
+goes-or-over number Slot.Away o h = h
+
+by-slot : (script lines : List ScriptLine) (state : State) (config : Config) (old new : Replay) (still : Bool) (k : ℕ) (slot : Slot)
+    → (b : IsBehind script lines state (Some config) old) → old.seen ≡ true → slice_get old.slots k ≡ Some slot → GoesOrOver slot
+    → TurnsAt config k old new still (Some slot)
+    → IsBehind script (lines ++ ScriptLine.Turn 1 (suc k) ∷ []) state (Some config) new
+by-slot script lines state config old new still k (Slot.Going a net) b seen at there t =
+    happens script lines state config old new still k b (silent-as b.w old.slots k (Slot.Going a net) (b.mirrors).records at ∙ there) (t b.s b.w b.mirrors seen (b.matches).plain.0)
+by-slot script lines state config old new still k (Slot.Over e) b seen at there t =
+    subst (λ (r : Replay). IsBehind script (lines ++ ScriptLine.Turn 1 (suc k) ∷ []) state (Some config) r) (sym t.0)
+    (rests script lines state (Some config) old (suc k) b (silent-as b.w old.slots k (Slot.Over e) (b.mirrors).records at ∙ there))
+by-slot script lines state config old new still k Slot.Away b seen at there t = absurd there
+
+pub turn-goes : (number : ℕ) (config : Config) (old new : Replay) (still : Bool) → TurnsAt config (number - 1) old new still (slice_get old.slots (number - 1))
+    → GoesBehind (ScriptLine.Turn 1 number) (Some config) (Some config) old new
+turn-goes number config old new still t script lines state form allowed b =
+    let p = place-of number script lines state (Some config) old allowed b in
+    let is : number - 1 ≡ p.k = let n = p.number' in omega (arith, n) in
+    let turned : TurnsAt config p.k old new still (Some p.slot) =
+    subst (λ (x : Option Slot). TurnsAt config p.k old new still x) p.slot-at (subst (λ (n : ℕ). TurnsAt config n old new still (slice_get old.slots n)) is t) in
+    let seen : old.seen ≡ true = sym (b.matches).seen' ∙ (both state.seen _ allowed).0 in
+    subst (λ (n : ℕ). IsBehind script (lines ++ ScriptLine.Turn 1 n ∷ []) state (Some config) new) (sym p.number')
+    (by-slot script lines state config old new still p.k p.slot b seen p.slot-at (goes-or-over (suc p.k) p.slot p.o p.stands) turned)
+
+-- nothing is published, so no turn is due
+pub no-turn : (number : ℕ) (old : Replay) → GoesBehind (ScriptLine.Turn 1 number) None None old old
+no-turn number old script lines state form allowed b = cc ((b.matches).order (sym (b.matches).seen' ∙ (both state.seen _ allowed).0))

@@ -1,0 +1,20 @@
+use Rattle.std.proofs.Common.{◌∙◌, sym, ap, subst, List, [], None}
+use Rattle.socks_machine.specs.declared.script.ScriptLine.{ScriptLine}
+use Rattle.socks_machine.specs.declared.world.World.{World}
+use Rattle.socks_machine.specs.Follows.{IsReplay, opens_of}
+use Rattle.replay_script.specs.Conditions.{IsServed, start}
+use Rattle.replay_run.specs.Behind.{IsBehind}
+use Rattle.replay_run.proofs.play.replay.Goals as goal
+
+pub play-requires-clause-served : goal.play-requires-clause-served
+play-requires-clause-served c = subst IsServed (sym c.as_slice-2.ensures) c.requires.served
+
+pub play-requires-clause-first : goal.play-requires-clause-first
+play-requires-clause-first c =
+    subst (λ (ls : List ScriptLine). IsBehind ls [] start None c.in_ok-replay.replay) (sym c.as_slice-2.ensures)
+    (c.in_ok-replay.ensures c.args.script.now c.requires.served (c.opens_of.ensures ∙ ap opens_of c.as_slice.ensures))
+
+pub returns-in-Ok : goal.returns-in-Ok
+returns-in-Ok c = record {
+  played = subst (λ (ls : List ScriptLine). (world : World) × IsReplay ls world c.play.new.self.out) c.as_slice-2.ensures c.in-Ok.ensures;
+}

@@ -1,0 +1,32 @@
+use Rattle.std.proofs.lemmas.Result.{IfOk-weaker}
+use Rattle.replay_run.specs.Changes.{with_arrival}
+use Rattle.replay_script.specs.Conditions.{may_send}
+use Rattle.socks_machine.specs.declared.script.ScriptLine.{ScriptLine}
+use Rattle.replay_run.specs.declared.slot.Slot.{Slot}
+use Rattle.replay_run.proofs.Changing.{changed, client-changes, may-arrive, place-of, place-there, put-back, still-there}
+use Rattle.replay_run.proofs.state.Replay.client.Goals as goal
+
+pub replace-slot-requires : goal.replace-slot-requires
+replace-slot-requires c = let d = c.requires.due.1 in
+    place-there c.args.number (may_send c.args.bytes.now) d.state.sides d.behind.s.outsides c.args.self.now.slots
+    (place-of (ScriptLine.Client c.args.number c.args.bytes.now) c.requires.due.0 c.args.self.now c.args.number (may_send c.args.bytes.now) d d.allowed)
+
+pub arrive-arrived-requires : goal.arrive-arrived-requires
+arrive-arrived-requires c = let d = c.requires.due.1 in
+    may-arrive c.args.number c.args.bytes.now d.state.sides d.behind.s.outsides c.args.self.now.slots
+    (place-of (ScriptLine.Client c.args.number c.args.bytes.now) c.requires.due.0 c.args.self.now c.args.number (may_send c.args.bytes.now) d d.allowed)
+    c.replace-slot.result c.replace-slot.ensures.value
+
+pub set-requires : goal.set-requires
+set-requires c = let d = c.requires.due.1 in
+    still-there c.args.self.now.slots c.replace-slot.new.self _ Slot.Away
+    (place-there c.args.number (may_send c.args.bytes.now) d.state.sides d.behind.s.outsides c.args.self.now.slots
+    (place-of (ScriptLine.Client c.args.number c.args.bytes.now) c.requires.due.0 c.args.self.now c.args.number (may_send c.args.bytes.now) d d.allowed))
+    c.replace-slot.ensures.after
+
+pub returns : goal.returns
+returns c = IfOk-weaker c.arrive-arrived.result _ _ (λ done arrived config script lines state form allowed behind.
+    changed script lines state config c.args.self.now c.set.new.self (ScriptLine.Client c.args.number c.args.bytes.now) c.args.number (may_send c.args.bytes.now) _ _
+    (with_arrival c.args.bytes.now) (client-changes c.args.number c.args.bytes.now) allowed
+    (put-back c.args.self.now.slots c.replace-slot.new.self c.set.new.self _ c.replace-slot.result Slot.Away c.arrive-arrived.new.self (with_arrival c.args.bytes.now)
+    c.replace-slot.ensures.value c.replace-slot.ensures.after arrived c.set.ensures) behind) c.arrive-arrived.ensures

@@ -1,0 +1,10 @@
+use Rattle.std.proofs.Common.{◌≡◌, length, true, List}
+use Rattle.socks_machine.specs.declared.script.ScriptLine.{ScriptLine}
+use Rattle.replay_run.specs.Behind.{IsInRound}
+use Rattle.replay_run.proofs.state.Replay.round.Given as goal
+
+abbrev pub invariant-turning : goal.invariant-turning
+invariant-turning l = record {
+  count : length l.self.slots ≡ length l.fn.self.slots;
+  so_far : (script : List ScriptLine) → IsInRound script l.config 0 true l.fn.self → IsInRound script l.config l.at l.still l.self;
+}

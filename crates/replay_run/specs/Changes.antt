@@ -1,0 +1,59 @@
+-- What a line changes of one association.
+use Rattle.std.specs.Prelude.{◌≡◌, ◌+◌, ℕ, true, false, Option, Some, None, List, ◌++◌, length}
+use Rattle.addr_pattern.specs.declared.endpoint.Endpoint.{Endpoint}
+use Rattle.net_ends.specs.InMemory.{LinkInMemory, NetInMemory, fresh_link, fresh_net}
+use Rattle.net_ends.specs.Nets.{DialOutcome}
+use Rattle.socks_machine.specs.Step.{fresh}
+use Rattle.replay_run.specs.declared.slot.Slot.{Slot}
+
+-- what changes of the target's link, where it is there, and else of the link that waits in the net
+abbrev pub change_target : (LinkInMemory → LinkInMemory) → Option LinkInMemory → Option LinkInMemory
+change_target f None = None
+change_target f (Some link) = Some (f link)
+
+abbrev pub change_net : (LinkInMemory → LinkInMemory) → Option LinkInMemory → NetInMemory → NetInMemory
+change_net f None net = record net { link = f net.link }
+change_net f (Some link) net = net
+
+abbrev pub with_room : ℕ → LinkInMemory → LinkInMemory
+with_room n link = record link { cap = link.cap + n }
+
+abbrev pub with_bytes : List ℕ → LinkInMemory → LinkInMemory
+with_bytes bytes link = record link { arrived = link.arrived ++ bytes }
+
+abbrev pub with_end : LinkInMemory → LinkInMemory
+with_end link = record link { ends = true }
+
+abbrev pub with_outcome : DialOutcome → NetInMemory → NetInMemory
+with_outcome outcome net = record net { outcome = outcome }
+
+-- bytes of the client, and room for them on their way to the target
+abbrev pub with_arrival : List ℕ → Slot → Slot
+with_arrival bytes (Slot.Going a net) = Slot.Going (record a { client = with_bytes bytes a.client; target = change_target (with_room (length bytes)) a.target })
+    (change_net (with_room (length bytes)) a.target net)
+with_arrival bytes slot = slot
+
+abbrev pub with_client_end : Slot → Slot
+with_client_end (Slot.Going a net) = Slot.Going (record a { client = with_end a.client }) net
+with_client_end slot = slot
+
+abbrev pub with_target_end : Slot → Slot
+with_target_end (Slot.Going a net) = Slot.Going (record a { target = change_target with_end a.target }) (change_net with_end a.target net)
+with_target_end slot = slot
+
+abbrev pub with_plan : DialOutcome → Slot → Slot
+with_plan outcome (Slot.Going a net) = Slot.Going a (with_outcome outcome net)
+with_plan outcome slot = slot
+
+-- more can arrive from the client
+abbrev pub MayArrive : Slot → Type 0
+MayArrive (Slot.Going a net) = a.client.ends ≡ false
+MayArrive slot = Unit {0}
+
+-- room for all replies of the proxy
+abbrev pub room_for_replies : ℕ
+room_for_replies = 64
+
+-- an association on which nothing has happened, with the net whose next dial is refused
+abbrev pub opened_slot : ℕ → Endpoint → Endpoint → Slot
+opened_slot number peer local = Slot.Going (record { state = fresh number peer local 0; client = fresh_link room_for_replies; target = None }) (fresh_net 0)

@@ -1,0 +1,37 @@
+ghost use Rattle.std.specs.Prelude.{◌≡◌, ◌<◌, length, IfOk, slice_get};
+ghost use Rattle.rule_list.specs.Numbers.{FitsNumbers};
+ghost use Rattle.replay_run.specs.AtTurn.{TurnsAt};
+
+use crate::slot::Slot;
+use crate::state::Replay;
+use crate::totals::Totals;
+use crate::turns::{make_turn, to_slot, write_turn};
+use conf_model::Config;
+use std::alloc::{AllocError, Global};
+
+impl Replay {
+    /// A turn on the association at this place, with its line; and whether nothing came of it. One that has ended stays
+    /// as it is.
+    pub fn turn_at(&mut self, alloc: Global, config: &Config, at: usize) -> Result<bool, AllocError>
+        requires numbers { FitsNumbers config.now }
+        requires within { at < length self.old.slots }
+        ensures kept { IfOk result (λ _. length self.new.slots ≡ length self.old.slots) }
+        ensures turned { IfOk result (λ still. TurnsAt config.now at self.old self.new still (slice_get self.old.slots at)) }
+    {
+        let slot = self.slots.replace(at, Slot::Away);
+        match slot {
+            Slot::Going { assoc, mut net } => {
+                let before = Totals::of(&assoc.state);
+                let next = make_turn(alloc, config, &mut self.desk, assoc, &mut net)?;
+                let still = write_turn(alloc, &mut self.out, before, &next)?;
+                self.slots.set(at, to_slot(next, net));
+                Ok(still)
+            }
+            Slot::Over(ended) => {
+                self.slots.set(at, Slot::Over(ended));
+                Ok(true)
+            }
+            Slot::Away => Ok(true),
+        }
+    }
+}

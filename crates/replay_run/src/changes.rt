@@ -1,0 +1,73 @@
+ghost use Rattle.std.specs.Prelude.{◌≡◌, IfOk, Option as Maybe};
+ghost use Rattle.conf_model.specs.declared.config.Config.{Config};
+ghost use Rattle.net_ends.specs.Plans.{planned};
+ghost use Rattle.socks_machine.specs.declared.script.ScriptLine.TheVariants.{Client, ClientEnd, TargetEnd, Dial};
+ghost use Rattle.replay_script.specs.Conditions.{IsServedOutcome};
+ghost use Rattle.assoc_core.specs.Turns.{outer_of};
+ghost use Rattle.replay_run.specs.Behind.{Goes, IsDue};
+
+use crate::slot::Slot;
+use crate::state::Replay;
+use net_ends::DialPlan;
+use socks_machine::Outer;
+use std::alloc::AllocError;
+
+/// The plan of a dial that is to come out so.
+fn plan_of(outer: Outer) -> DialPlan
+    ensures { IsServedOutcome outer → outer_of (planned result) ≡ outer }
+{
+    match outer {
+        Outer::Up(local) => DialPlan::Up(local),
+        Outer::HostUnreachable => DialPlan::HostUnreachable,
+        Outer::NetUnreachable => DialPlan::NetUnreachable,
+        Outer::Failed => DialPlan::Failed,
+        _ => DialPlan::Refused,
+    }
+}
+
+impl Replay {
+    /// The line `client`.
+    pub fn client(&mut self, number: u64, bytes: &[u8]) -> Result<(), AllocError>
+        requires due { (config : Maybe Config) × IsDue (Client number bytes.now) config self.old }
+        ensures { IfOk result (λ _. Goes (Client number bytes.now) self.old self.new) }
+    {
+        let at = (number - 1) as usize;
+        let mut slot = self.slots.replace(at, Slot::Away);
+        let arrived = slot.arrive(bytes);
+        self.slots.set(at, slot);
+        arrived
+    }
+
+    /// The line `clientend`.
+    pub fn client_end(&mut self, number: u64)
+        requires due { (config : Maybe Config) × IsDue (ClientEnd number) config self.old }
+        ensures { Goes (ClientEnd number) self.old self.new }
+    {
+        let at = (number - 1) as usize;
+        let mut slot = self.slots.replace(at, Slot::Away);
+        slot.end_client();
+        self.slots.set(at, slot);
+    }
+
+    /// The line `targetend`.
+    pub fn target_end(&mut self, number: u64)
+        requires due { (config : Maybe Config) × IsDue (TargetEnd number) config self.old }
+        ensures { Goes (TargetEnd number) self.old self.new }
+    {
+        let at = (number - 1) as usize;
+        let mut slot = self.slots.replace(at, Slot::Away);
+        slot.end_target();
+        self.slots.set(at, slot);
+    }
+
+    /// The line `dial`.
+    pub fn dial(&mut self, number: u64, outer: Outer)
+        requires due { (config : Maybe Config) × IsDue (Dial number outer) config self.old }
+        ensures { Goes (Dial number outer) self.old self.new }
+    {
+        let at = (number - 1) as usize;
+        let mut slot = self.slots.replace(at, Slot::Away);
+        slot.plan(plan_of(outer));
+        self.slots.set(at, slot);
+    }
+}

@@ -1,0 +1,70 @@
+ghost use Rattle.std.specs.Prelude.{◌≡◌, IfOk, IfSome, Some, Option as Maybe};
+ghost use Rattle.conf_model.specs.declared.config.Config.{Config as SomeConfig};
+ghost use Rattle.net_ends.specs.InMemory.{fresh_link, fresh_net};
+ghost use Rattle.socks_machine.specs.declared.script.ScriptLine.TheVariants.{Publish, See, Open};
+ghost use Rattle.socks_machine.specs.Step.{fresh};
+ghost use Rattle.replay_run.specs.Behind.{Goes, GoesBehind};
+ghost use Rattle.replay_run.specs.Changes.{opened_slot};
+
+use crate::lines::{show_open, show_publish, show_see};
+use crate::slot::Slot;
+use crate::state::Replay;
+use addr_pattern::Endpoint;
+use assoc_core::Assoc;
+use net_ends::{MemLink, MemNet};
+use std::alloc::{AllocError, Global};
+
+/// Room at the client's link for all replies of the proxy, in bytes.
+const REPLIES: usize = 64;
+
+/// The association of this number, on which nothing has happened.
+fn opened(alloc: Global, number: u64, peer: Endpoint, local: Endpoint) -> Option<Slot>
+    ensures { IfSome result (λ slot. slot ≡ opened_slot number peer local) }
+{
+    match MemLink::make(alloc, REPLIES) {
+        Err(_) => None,
+        Ok(client) => match MemNet::make(alloc, 0) {
+            Err(_) => None,
+            Ok(net) => Some(Slot::Going {
+                assoc: Assoc::open(alloc, number, client, peer, local, 0),
+                net,
+            }),
+        },
+    }
+}
+
+impl Replay {
+    /// The line `publish`.
+    pub fn publish(&mut self, alloc: Global) -> Result<(), AllocError>
+        ensures { IfOk result (λ _. (config : Maybe SomeConfig) (k : SomeConfig) → GoesBehind (Publish k) config (Some k) self.old self.new) }
+    {
+        show_publish(alloc, &mut self.out)
+    }
+
+    /// The line `see`.
+    pub fn see(&mut self, alloc: Global) -> Result<(), AllocError>
+        ensures { IfOk result (λ _. Goes (See 1) self.old self.new) }
+    {
+        self.seen = true;
+        show_see(alloc, &mut self.out)
+    }
+
+    /// The line `open`.
+    pub fn open(
+        &mut self,
+        alloc: Global,
+        number: u64,
+        peer: Endpoint,
+        local: Endpoint,
+    ) -> Result<(), AllocError>
+        ensures { IfOk result (λ _. Goes (Open 1 number peer local) self.old self.new) }
+    {
+        match opened(alloc, number, peer, local) {
+            None => Err(AllocError),
+            Some(slot) => {
+                self.slots.push(slot)?;
+                show_open(alloc, &mut self.out, number)
+            }
+        }
+    }
+}
