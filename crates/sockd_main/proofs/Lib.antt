@@ -1,0 +1,3 @@
+pub mod Mores
+pub mod Refusals
+pub mod Statuses

@@ -1,0 +1,53 @@
+//! The program: a SOCKS proxy driven by rules.
+#![tactic(auto)]
+
+mod end;
+mod report;
+mod run;
+mod standard;
+mod whole;
+
+use end::End;
+use report::report;
+use run::quick;
+use standard::{Reader, Writer};
+use std::process::ExitCode;
+use std::{env, io};
+
+/// The words behind the program's name.
+fn words_of(rt: &HostRuntime) -> io::Result<Vec<String>> {
+    let mut arguments = env::args(rt)?;
+    let _program = arguments.next();
+    let mut words = Vec::new(rt.alloc());
+    for word in arguments {
+        words.push(word)?;
+    }
+    Ok(words)
+}
+
+/// How a run ends whose words couldn't be read: a word that isn't UTF-8 is none of a command.
+fn wordless(error: &io::Error) -> End {
+    if error.kind() == io::ErrorKind::InvalidData {
+        End::Usage
+    } else {
+        End::Memory
+    }
+}
+
+fn main(rt: HostRuntime) -> ExitCode {
+    let mut input = Reader::new(rt.stdin());
+    let mut out = Writer::new(rt.stdout());
+    let mut err = Writer::new(rt.stderr());
+    let status = match words_of(&rt) {
+        Ok(words) => quick(rt.alloc(), words.as_slice(), &mut input, &mut out, &mut err),
+        Err(error) => {
+            let end = wordless(&error);
+            report(&end, &mut err);
+            end.status()
+        }
+    };
+    ExitCode::from(status)
+}
+
+#[cfg(test)]
+mod tests;

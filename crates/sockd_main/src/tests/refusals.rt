@@ -1,0 +1,273 @@
+//! Bad input of each kind: one line on standard error, status 1, and nothing on standard output.
+use super::*;
+use std::test::*;
+
+/// Line 1 of a script.
+const FIRST: &str = "sockd-script 1\n";
+
+/// Lines 1 to 5 of a script.
+const PUBLISHED: &str = "\
+sockd-script 1
+publish 3
+internal: 127.0.0.1 port = 1080
+client pass { from: 0/0 to: 0/0 }
+socks pass { from: 0/0 to: 0/0 }
+";
+
+const OPEN: &str = "open 1 1 10.0.0.5:5000 127.0.0.1:1080\n";
+
+/// Greeting and request of the client, whole.
+const WHOLE: &str = "client 1 05010005010001C633640A0050\n";
+
+const AT_2: &str = "sockd: script line 2: not built\n";
+
+const AT_8: &str = "sockd: script line 8: not built\n";
+
+const HEADERS: &[&str] = &[
+    "",
+    "\n",
+    "sockd-script 2\n",
+    "sockd-script 01\n",
+    "sockd-script 1\r\n",
+    "see 1\n",
+    "# a comment\nsockd-script 1\n",
+];
+
+const INTERNAL: &str = "internal: 127.0.0.1 port = 1080\n";
+
+const CLIENT: &str = "client pass { from: 0/0 to: 0/0 }\n";
+
+const SOCKS: &str = "socks pass { from: 0/0 to: 0/0 }\n";
+
+/// The lines of a configuration: the count and three counted ones. What is wrong in them is a fault of the first.
+const CONFIGURATIONS: &[[&str; 4]] = &[
+    ["publish\n", INTERNAL, CLIENT, SOCKS],
+    ["publish 03\n", INTERNAL, CLIENT, SOCKS],
+    ["publish 3 \n", INTERNAL, CLIENT, SOCKS],
+    ["publish 1\n", INTERNAL, "", ""],
+    ["publish 4\n", INTERNAL, CLIENT, SOCKS],
+    ["publish 4099\n", INTERNAL, CLIENT, SOCKS],
+    ["publish 18446744073709551616\n", INTERNAL, CLIENT, SOCKS],
+    ["publish 3\n", CLIENT, INTERNAL, SOCKS],
+    [
+        "publish 3\n",
+        "internal: 127.0.0.256 port = 1080\n",
+        CLIENT,
+        SOCKS,
+    ],
+    [
+        "publish 3\n",
+        "internal: 127.0.0.1 port = 0\n",
+        CLIENT,
+        SOCKS,
+    ],
+    [
+        "publish 3\n",
+        "internal: 127.0.0.1 port = 65536\n",
+        CLIENT,
+        SOCKS,
+    ],
+    ["publish 3\n", "internal: ::1 port = 1080\n", CLIENT, SOCKS],
+    [
+        "publish 3\n",
+        INTERNAL,
+        "client block { from: 0/0 to: 0/0 }\n",
+        SOCKS,
+    ],
+    [
+        "publish 3\n",
+        INTERNAL,
+        CLIENT,
+        "socks drop { from: 0/0 to: 0/0 }\n",
+    ],
+    [
+        "publish 3\n",
+        INTERNAL,
+        CLIENT,
+        "socks pass { from: 0/0 }\n",
+    ],
+    [
+        "publish 3\n",
+        INTERNAL,
+        CLIENT,
+        "socks pass { from: 0/0 to: 10.0.0/8 }\n",
+    ],
+    [
+        "publish 3\n",
+        INTERNAL,
+        CLIENT,
+        "socks pass { from: 0/0 to: 10.0.0.1/8 }\n",
+    ],
+    [
+        "publish 3\n",
+        INTERNAL,
+        CLIENT,
+        "socks pass { from: 0/0 to: 10.0.0.0/33 }\n",
+    ],
+    ["publish 3\n", INTERNAL, CLIENT, "\n"],
+];
+
+/// Lines behind an open association that are bad by themselves, or break their condition there.
+const LINES: &[&str] = &[
+    "Turn 1 1\n",
+    "turn 1  1\n",
+    " turn 1 1\n",
+    "turn 1 1\r\n",
+    "turn 1\n",
+    "turn 1 01\n",
+    "turn 1 2\n",
+    "turn 0 1\n",
+    "turn 2 1\n",
+    "turn 1 18446744073709551616\n",
+    "see 2\n",
+    "open 1 1 10.0.0.5:5000 127.0.0.1:1080\n",
+    "open 1 3 10.0.0.5:5000 127.0.0.1:1080\n",
+    "open 2 2 10.0.0.5:5000 127.0.0.1:1080\n",
+    "open 1 2 10.0.0.256:5000 127.0.0.1:1080\n",
+    "open 1 2 10.0.0.5:65536 127.0.0.1:1080\n",
+    "open 1 2 10.0.0.5:05000 127.0.0.1:1080\n",
+    "open 1 2 [::1]:5000 127.0.0.1:1080\n",
+    "client 2 47\n",
+    "client 1 \n",
+    "client 1 4\n",
+    "client 1 4g\n",
+    "client 1 04\n",
+    "client 1 050102\n",
+    "client 1 05020002\n",
+    "client 1 05010004\n",
+    "client 1 0501000502\n",
+    "client 1 05010005010003\n",
+    "clientend 2\n",
+    "clientend 1\n",
+    "targetend 2\n",
+    "target 1 00\n",
+    "dial 2 refused\n",
+    "dial 1 host\n",
+    "dial 1 up [::1]:1\n",
+    "dial 1 up\n",
+    "now 1\n",
+];
+
+/// Further lines of a script, the last of which comes too early or too late.
+const ORDERS: &[(&[&str], &str)] = &[
+    (&[FIRST, "stop\n"], AT_2),
+    (&[FIRST, "see 1\n"], AT_2),
+    (
+        &[FIRST, "#\n\nclient 1 47\n"],
+        "sockd: script line 4: not built\n",
+    ),
+    (&[PUBLISHED, SOCKS], "sockd: script line 6: not built\n"),
+    (
+        &[PUBLISHED, "publish 2\n", INTERNAL, CLIENT],
+        "sockd: script line 6: not built\n",
+    ),
+    (
+        &[PUBLISHED, OPEN, "turn 1 1\n"],
+        "sockd: script line 7: not built\n",
+    ),
+    (
+        &[PASSES, "open 1 2 10.0.0.5:5000 127.0.0.1:1080\n"],
+        "sockd: script line 7: not built\n",
+    ),
+    (
+        &[
+            PASSES,
+            OPEN,
+            "client 1 050100050100010102030400\n",
+            "clientend 1\n",
+        ],
+        "sockd: script line 9: not built\n",
+    ),
+    (
+        &[PASSES, OPEN, "targetend 1\n", "targetend 1\n"],
+        "sockd: script line 9: not built\n",
+    ),
+    (
+        &[PASSES, OPEN, "dial 1 refused\n", "dial 1 refused\n"],
+        "sockd: script line 9: not built\n",
+    ),
+    (
+        &[PASSES, OPEN, WHOLE, "clientend 1\n", "clientend 1\n"],
+        "sockd: script line 10: not built\n",
+    ),
+    (
+        &[PASSES, OPEN, WHOLE, "clientend 1\n", "client 1 00\n"],
+        "sockd: script line 10: not built\n",
+    ),
+];
+
+/// Whether a script is refused with this line on standard error.
+fn is_refused(alloc: Global, parts: &[&str], error: &str) -> bool {
+    replays(alloc, parts, NO_TROUBLE, 1, b"", error)
+}
+
+#[test]
+fn headers(rt: HostRuntime) {
+    for text in HEADERS {
+        let error = "sockd: script line 1: header\n";
+        assert!(rt; is_refused(rt.alloc(), &[*text], error), "at {text}");
+    }
+}
+
+#[test]
+fn configurations(rt: HostRuntime) {
+    for [count, first, second, third] in CONFIGURATIONS {
+        let parts = [FIRST, *count, *first, *second, *third];
+        assert!(rt;
+            is_refused(rt.alloc(), &parts, AT_2),
+            "at {count}{first}{second}{third}"
+        );
+    }
+}
+
+#[test]
+fn lines(rt: HostRuntime) {
+    for line in LINES {
+        assert!(rt;
+            is_refused(rt.alloc(), &[PASSES, OPEN, *line], AT_8),
+            "at {line}"
+        );
+    }
+}
+
+#[test]
+fn orders(rt: HostRuntime) {
+    for (parts, error) in ORDERS {
+        assert!(rt; is_refused(rt.alloc(), *parts, *error), "not {error}");
+    }
+}
+
+/// Whether 65,535 bytes of a client are served, and one more is refused.
+fn takes_most_bytes(alloc: Global) -> Option<bool> {
+    let digits = vec![in alloc; b'7'; 131_070].ok()?;
+    let most = str::from_utf8(digits.as_slice()).ok()?;
+    let ran = ran(
+        alloc,
+        &["replay"],
+        &[PASSES, OPEN, "client 1 ", most, "\n"],
+        NO_TROUBLE,
+    )?;
+    let over = [PASSES, OPEN, "client 1 77", most, "\n"];
+    Some(ran.status == 0 && is_refused(alloc, &over, AT_8))
+}
+
+/// Whether an input without end is refused.
+fn refuses_endless_input(alloc: Global) -> Option<bool> {
+    let words = list_of(alloc, &["replay"])?;
+    let mut source = Reader::new(std::io::repeat(b'#'));
+    let mut out = sink_of(alloc, 100, 0)?;
+    let mut err = sink_of(alloc, 100, 0)?;
+    let status = quick(alloc, words.as_slice(), &mut source, &mut out, &mut err);
+    let error = b"sockd: script line 0: length\n".as_slice();
+    Some(status == 1 && out.taken().is_empty() && err.taken() == error)
+}
+
+#[test]
+fn most_bytes_of_a_client(rt: HostRuntime) {
+    assert_eq!(rt; takes_most_bytes(rt.alloc()), Some(true));
+}
+
+#[test]
+fn endless_input(rt: HostRuntime) {
+    assert_eq!(rt; refuses_endless_input(rt.alloc()), Some(true));
+}
