@@ -1,0 +1,5 @@
+pub mod Words
+pub mod Statements
+pub mod Tokens
+pub mod Reading
+pub mod Laws
