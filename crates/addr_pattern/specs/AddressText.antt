@@ -126,9 +126,13 @@ abbrev pub whole_groups : Option (List ℕ) → Option (List ℕ)
 whole_groups None = None
 whole_groups (Some xs) = if length xs == 8 then Some xs else None
 
+-- a dotted quad stands at the text's end alone, so there is none before the `::`
+abbrev pub undotted : List ℕ → Option (List ℕ)
+undotted text = if list_any (λ b. b == 46) text then None else groups_of text
+
 abbrev pub ipv6_cut : List ℕ → Option (List ℕ × List ℕ) → Option (List ℕ)
 ipv6_cut text None = whole_groups (groups_of text)
-ipv6_cut text (Some x) = filled (groups_of x.0) (groups_of x.1)
+ipv6_cut text (Some x) = filled (undotted x.0) (groups_of x.1)
 
 abbrev pub ipv6_of : List ℕ → Option ℕ
 ipv6_of text = option_map (worth 65536 0) (ipv6_cut text (cut_at_gap text))

@@ -2,13 +2,25 @@
 #![tactic(auto)]
 
 mod addr;
+mod addr_text;
+mod blanks;
+mod cut;
 mod endpoint;
+mod endpoint_text;
 mod fault;
 mod fold;
 mod front;
+mod groups;
 mod host;
+mod host_text;
+mod ipv4;
+mod ipv6;
+mod ipv6_text;
 mod name;
+mod number;
 mod pattern;
+mod pattern_text;
+mod port_text;
 mod short;
 
 pub use addr::Addr;

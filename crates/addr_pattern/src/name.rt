@@ -50,7 +50,7 @@ impl Name {
         Ok(Name::from_bytes(bytes))
     }
 
-    fn from_bytes(bytes: &[u8]) -> Name
+    pub(crate) fn from_bytes(bytes: &[u8]) -> Name
         requires not_empty { 0 < length bytes.now }
         requires short { length bytes.now ≤ 255 }
         ensures { result ≡ bytes.now }
