@@ -1,2 +1,3 @@
 pub mod Quick
 pub mod Whole
+pub mod Standard

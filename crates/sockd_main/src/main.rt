@@ -1,6 +1,9 @@
 //! The program: a SOCKS proxy driven by rules.
 #![tactic(auto)]
 
+ghost use Rattle.std.specs.Prelude.{◌≡◌, ◌≢◌};
+ghost use Rattle.std.specs.IoError.{error_kind};
+
 mod end;
 mod report;
 mod run;
@@ -11,6 +14,7 @@ use end::End;
 use report::report;
 use run::quick;
 use standard::{Reader, Writer};
+use std::io::ErrorKind;
 use std::process::ExitCode;
 use std::{env, io};
 
@@ -26,8 +30,11 @@ fn words_of(rt: &HostRuntime) -> io::Result<Vec<String>> {
 }
 
 /// How a run ends whose words couldn't be read: a word that isn't UTF-8 is none of a command.
-fn wordless(error: &io::Error) -> End {
-    if error.kind() == io::ErrorKind::InvalidData {
+fn wordless(error: &io::Error) -> End
+    ensures text { error_kind error.now ≡ ErrorKind.InvalidData → result ≡ End.Usage }
+    ensures other { error_kind error.now ≢ ErrorKind.InvalidData → result ≡ End.Memory }
+{
+    if error.kind() == ErrorKind::InvalidData {
         End::Usage
     } else {
         End::Memory

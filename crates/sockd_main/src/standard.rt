@@ -1,6 +1,6 @@
 //! Readers and writers of the system as sources and sinks. They tell nothing of their bytes: no clause can say what a file
-//! or a terminal holds.
-ghost use Rattle.std.specs.Prelude.{None};
+//! or a terminal holds. Where a reader or a writer knows its bytes itself, each call hands them on.
+ghost use Rattle.std.specs.Prelude.{◌≡◌, ◌<◌, ◌≤◌, None, length};
 
 use net_ends::{Giving, Sink, Source, Taking};
 use std::io::{Read, Write};
@@ -13,17 +13,31 @@ pub struct Reader<R> {
 }
 
 impl<R> Reader<R> {
-    pub fn new(inner: R) -> Reader<R> {
+    pub fn new(inner: R) -> Reader<R>
+        ensures inner { result.inner ≡ inner }
+        ensures faults { result.faults ≡ 0 }
+    {
         Reader { inner, faults: 0 }
     }
 }
 
 impl<R: Read> Source for Reader<R> {
+    ghost use Rattle.net_ends.specs.Streams.{GivesTold, MayGive, TakingCause};
+    ghost use Rattle.sockd_main.specs.Standard.{HasRead};
+
     ghost told = { λ _. None };
 
     ghost faults = { λ reader. reader.faults };
 
-    fn read(&mut self, into: &mut [u8]) -> Taking {
+    fn read(&mut self, into: &mut [u8]) -> Taking
+        requires { 0 < length into.old }
+        ensures answer { MayGive (length into.old) result }
+        ensures told { GivesTold None None result into.new }
+        ensures later { self.old.faults ≤ self.new.faults }
+        ensures cause { TakingCause self.old.faults self.new.faults result }
+        // Beside the clauses of the trait: the bytes are those that the reader gave.
+        ensures bytes { HasRead (R.remaining self.old.inner) (R.remaining self.new.inner) result into.new }
+    {
         match self.inner.read(into) {
             Ok(n) if n == 0 => Taking::End,
             Ok(n) => Taking::Got(n),
@@ -43,17 +57,30 @@ pub struct Writer<W> {
 }
 
 impl<W> Writer<W> {
-    pub fn new(inner: W) -> Writer<W> {
+    pub fn new(inner: W) -> Writer<W>
+        ensures inner { result.inner ≡ inner }
+        ensures faults { result.faults ≡ 0 }
+    {
         Writer { inner, faults: 0 }
     }
 }
 
 impl<W: Write> Sink for Writer<W> {
+    ghost use Rattle.net_ends.specs.Streams.{GivingCause, MayTake, after_giving};
+    ghost use Rattle.sockd_main.specs.Standard.{HasWritten};
+
     ghost told = { λ _. None };
 
     ghost faults = { λ writer. writer.faults };
 
-    fn write(&mut self, from: &[u8]) -> Giving {
+    fn write(&mut self, from: &[u8]) -> Giving
+        ensures answer { MayTake (length from.now) result }
+        ensures told { None ≡ after_giving None result from.now }
+        ensures later { self.old.faults ≤ self.new.faults }
+        ensures cause { GivingCause self.old.faults self.new.faults result }
+        // Beside the clauses of the trait: the writer took the bytes.
+        ensures bytes { HasWritten (W.contents self.old.inner) (W.contents self.new.inner) result from.now }
+    {
         match self.inner.write(from) {
             Ok(n) if n > 0 => Giving::Took(n),
             _ => {
