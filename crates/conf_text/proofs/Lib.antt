@@ -5,3 +5,6 @@ pub mod Joining
 pub mod Unique
 pub mod Deciding
 pub mod Rows
+pub mod Lines
+pub mod Parts
+pub mod PlainValues

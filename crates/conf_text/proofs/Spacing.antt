@@ -36,21 +36,21 @@ spaced_other b line h = ap (λ v. cond v (32 ∷ b ∷ 32 ∷ []) (b ∷ []) ++ 
 spaced_brace : (b : ℕ) (line : List ℕ) → is_brace b ≡ true → spaced (b ∷ line) ≡ 32 ∷ b ∷ 32 ∷ spaced line
 spaced_brace b line h = ap (λ v. cond v (32 ∷ b ∷ 32 ∷ []) (b ∷ []) ++ spaced line) h
 
-parts_hash : (b : ℕ) (line : List ℕ) → is_hash b ≡ true → parts (b ∷ line) ≡ [] ∷ []
+pub parts_hash : (b : ℕ) (line : List ℕ) → is_hash b ≡ true → parts (b ∷ line) ≡ [] ∷ []
 parts_hash b line h = ap (λ z. slice_split is_blank (spaced z)) (said_hash b line h)
 
-parts_blank : (b : ℕ) (line : List ℕ) → is_hash b ≡ false → is_brace b ≡ false → is_blank b ≡ true → parts (b ∷ line) ≡ [] ∷ parts line
+pub parts_blank : (b : ℕ) (line : List ℕ) → is_hash b ≡ false → is_brace b ≡ false → is_blank b ≡ true → parts (b ∷ line) ≡ [] ∷ parts line
 parts_blank b line h k l =
     ap (λ z. slice_split is_blank (spaced z)) (said_other b line h)
     ∙ (ap (slice_split is_blank) (spaced_other b (said line) k) ∙ slice_split-cons_yes is_blank b (spaced (said line)) l)
 
-parts_brace : (b : ℕ) (line : List ℕ) → is_hash b ≡ false → is_brace b ≡ true → is_blank b ≡ false → parts (b ∷ line) ≡ [] ∷ (b ∷ []) ∷ parts line
+pub parts_brace : (b : ℕ) (line : List ℕ) → is_hash b ≡ false → is_brace b ≡ true → is_blank b ≡ false → parts (b ∷ line) ≡ [] ∷ (b ∷ []) ∷ parts line
 parts_brace b line h k l =
     ap (λ z. slice_split is_blank (spaced z)) (said_other b line h)
     ∙ (ap (slice_split is_blank) (spaced_brace b (said line) k)
     ∙ ap (λ z. [] ∷ z) (slice_split-cons_no is_blank b (32 ∷ spaced (said line)) l))
 
-parts_word : (b : ℕ) (line : List ℕ) → is_hash b ≡ false → is_brace b ≡ false → is_blank b ≡ false → parts (b ∷ line) ≡ onto_first b (parts line)
+pub parts_word : (b : ℕ) (line : List ℕ) → is_hash b ≡ false → is_brace b ≡ false → is_blank b ≡ false → parts (b ∷ line) ≡ onto_first b (parts line)
 parts_word b line h k l =
     ap (λ z. slice_split is_blank (spaced z)) (said_other b line h)
     ∙ (ap (slice_split is_blank) (spaced_other b (said line) k) ∙ slice_split-cons_no is_blank b (spaced (said line)) l)
@@ -100,7 +100,7 @@ abbrev pub EndsWord : List ℕ → Type 0
 EndsWord [] = Unit {0}
 EndsWord (b ∷ line) = (is_hash b || is_blank b || is_brace b) ≡ true
 
-blank_no_brace : (b : ℕ) → is_blank b ≡ true → is_brace b ≡ false
+pub blank_no_brace : (b : ℕ) → is_blank b ≡ true → is_brace b ≡ false
 blank_no_brace b h = grind (arith, nat_tests)
 
 behind_by : (b : ℕ) (line : List ℕ) (u v w : Bool) → is_hash b ≡ u → is_blank b ≡ v → is_brace b ≡ w → (u || v || w) ≡ true → (more : List (List ℕ)) × (parts (b ∷ line) ≡ [] ∷ more)

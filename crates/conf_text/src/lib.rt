@@ -16,7 +16,7 @@ pub use laws::{faultless_text, one_fault, one_reading};
 pub use list::{List, Text};
 pub use memory::Memory;
 pub use statement::{Entry, Statement};
-pub use statements::read_statements;
+pub use statements::{joined, read_statements};
 
 #[cfg(test)]
 mod tests;

@@ -61,12 +61,12 @@ fn open_brace<'a>(words: Cursor<'a>) -> Option<(u32, Cursor<'a>)>
     }
 }
 
-/// The pieces, with one blank between each two.
-fn joined(alloc: Global, first: &[u8], others: &List<Text>) -> Result<Text, AllocError>
+/// The pieces, with one blank between each two. An `AllocError` comes where memory is refused.
+pub fn joined(alloc: Global, first: &[u8], others: &[Text]) -> Result<Text, AllocError>
     ensures { IfOk result (λ text. text ≡ join_with_byte 32 (first.now ∷ others.now)) }
 {
     let mut text = Text::from_slice(alloc, first)?;
-    for other in others.as_slice() {
+    for other in others {
         text.push(b' ')?;
         text.add(other.as_slice())?;
     }
@@ -113,7 +113,7 @@ fn block(
         return Err(TextFault::NoColon(line));
     };
     *words = inside;
-    let key = joined(alloc, first, &others)?;
+    let key = joined(alloc, first, others.as_slice())?;
     let entries = entries(alloc, words, at)?;
     Ok(Statement {
         line,

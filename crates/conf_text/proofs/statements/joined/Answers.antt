@@ -1,4 +1,4 @@
-use Rattle.std.proofs.Common.{◌≡◌, ◌<◌, ◌++◌, ◌∷◌, [], ℕ, List, length, get_or, take, sym, ap, subst, ◌∙◌}
+use Rattle.std.proofs.Common.{◌≡◌, ◌++◌, ◌∷◌, [], ℕ, List, get_or, take, sym, ap, ◌∙◌}
 use Rattle.std.specs.List.{join_with_byte}
 use Rattle.std.proofs.lemmas.List.{take_more}
 use Rattle.conf_text.proofs.Joining.{join_more}
@@ -10,10 +10,8 @@ loop-other-preserved c =
     let first = c.args.first.now in
     let others = c.args.others.now in
     let other : List ℕ = c.other-item.result in
-    let items = c.as_slice-other-items.ensures in
-    let within : i < length others = subst (λ (z : List (List ℕ)). i < length z) items c.loop-other-test.true in
-    let at : get_or others i other ≡ other = sym (c.other-item.is ∙ ap (λ (z : List (List ℕ)). get_or z i other) items) in
+    let at : get_or others i other ≡ other = sym c.other-item.is in
     c.in_ok-add.ensures.ok ∙ (ap (λ (z : List ℕ). z ++ c.as_slice.result.now) c.in_ok-push.ensures.ok
     ∙ (ap (λ (z : List ℕ). (c.loop-other.text ++ 32 ∷ []) ++ z) c.as_slice.ensures ∙ (ap (λ (z : List ℕ). (z ++ 32 ∷ []) ++ other) c.loop-other.invariant
     ∙ (sym (join_more first (take i others) other)
-    ∙ ap (λ (z : List (List ℕ)). join_with_byte 32 (first ∷ z)) (sym (take_more others i other within ∙ ap (λ (z : List ℕ). take i others ++ z ∷ []) at))))))
+    ∙ ap (λ (z : List (List ℕ)). join_with_byte 32 (first ∷ z)) (sym (take_more others i other c.loop-other-test.true ∙ ap (λ (z : List ℕ). take i others ++ z ∷ []) at))))))
