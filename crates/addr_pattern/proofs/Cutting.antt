@@ -1,10 +1,10 @@
 -- Texts that are cut at a byte, and their parts.
-use Rattle.std.proofs.Common.{ℕ, suc, ◌≡◌, ◌≢◌, ◌<◌, ◌≤◌, ◌+◌, ◌-◌, true, false, ◌==◌, Option, Some, None, List, [], ◌∷◌, ◌++◌, take, drop, get_or, length, sym, subst, ap, ◌∙◌, refl, arith, add-one, cond}
+use Rattle.std.proofs.Common.{ℕ, suc, ◌≡◌, ◌<◌, ◌≤◌, ◌+◌, ◌-◌, true, false, ◌==◌, Some, None, List, [], ◌∷◌, ◌++◌, take, drop, get_or, length, sym, subst, ap, ◌∙◌, refl, arith}
 use Rattle.std.proofs.Math.Seq.{drop-cons}
 use Rattle.std.proofs.lemmas.List.{take_more, take_all, take-append-drop, length-drop}
 use Rattle.std.proofs.lemmas.Bool.Decides.{nat_tests}
-use Rattle.addr_pattern.specs.AddressText.{parts, onto_first}
-use Rattle.addr_pattern.specs.Cuts.{Lacks, first_cut, behind_first, last_cut, onto_front, onto, between, without_end}
+use Rattle.addr_pattern.specs.AddressText.{parts}
+use Rattle.addr_pattern.specs.Cuts.{Lacks, first_cut, last_cut, onto, between, without_end}
 
 pub lacks_append : (at : ℕ) (xs ys : List ℕ) → Lacks at xs → Lacks at ys → Lacks at (xs ++ ys)
 lacks_append at [] ys h k = k

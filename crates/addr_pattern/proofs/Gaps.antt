@@ -1,11 +1,11 @@
 -- Texts of IPv6: what stands before and behind `::`, and the groups between the colons.
-use Rattle.std.proofs.Common.{ℕ, suc, ◌≡◌, ◌≢◌, ◌≤◌, ◌<◌, ◌+◌, ◌*◌, Bool, true, false, ◌==◌, ◌&&◌, nat_le, nat_lt, ◌⊎◌, inl, inr, Option, Some, None, option_map, List, [], ◌∷◌, ◌++◌, take, drop, get_or, length, length-append, length-drop, sym, subst, ap, ◌∙◌, refl, arith, cond, append_assoc, append-nil, add-one}
+use Rattle.std.proofs.Common.{ℕ, suc, ◌≡◌, ◌≤◌, ◌<◌, ◌+◌, Bool, true, false, ◌==◌, ◌&&◌, nat_le, nat_lt, inl, inr, Option, Some, None, option_map, List, [], ◌∷◌, ◌++◌, take, drop, get_or, length, length-append, length-drop, sym, ap, ◌∙◌, refl, arith, cond, append_assoc, append-nil}
 use Rattle.std.specs.List.{list_any}
 use Rattle.std.proofs.Math.Seq.{drop-cons}
 use Rattle.std.proofs.lemmas.List.{take_more}
 use Rattle.std.proofs.lemmas.Bool.Decides.{nat_tests}
-use Rattle.addr_pattern.specs.AddressText.{hex_value, map_bytes, all_of, worth, cut_at_gap, push_front, parts, group_of, groups_of, groups_of_parts, both, filled, undotted, whole_groups, ipv6_cut, ipv6_of}
-use Rattle.addr_pattern.specs.Cuts.{Lacks, CutsFirst}
+use Rattle.addr_pattern.specs.AddressText.{hex_value, map_bytes, all_of, worth, cut_at_gap, push_front, parts, group_of, groups_of, groups_of_parts, both, filled, whole_groups, ipv6_cut, ipv6_of}
+use Rattle.addr_pattern.specs.Cuts.{CutsFirst}
 use Rattle.addr_pattern.specs.Groups.{at_most_eight, groups_onto}
 use Rattle.addr_pattern.proofs.Cutting.{parts-lacks}
 use Rattle.addr_pattern.proofs.Quads.{lacks_or_cut, parts-first}

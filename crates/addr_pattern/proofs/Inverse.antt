@@ -1,10 +1,11 @@
 -- What is written of an address of IPv4 is read as that address.
-use Rattle.std.proofs.Common.{ℕ, ◌≡◌, ◌<◌, ◌≤◌, ◌+◌, ◌*◌, ◌/◌, ◌%◌, ◌^◌, ◌-◌, true, false, ◌==◌, ◌&&◌, nat_le, not, Bool, Option, Some, None, List, [], ◌∷◌, ◌++◌, length, sym, subst, ap, ◌∙◌, refl, arith, append_assoc, length-append, cond, decimal}
+use Rattle.std.proofs.Common.{ℕ, ◌≡◌, ◌<◌, ◌≤◌, ◌+◌, ◌*◌, ◌/◌, ◌%◌, ◌^◌, ◌-◌, true, false, ◌==◌, Some, List, [], ◌∷◌, ◌++◌, sym, ap, ◌∙◌, refl, arith, append_assoc, decimal}
 use Rattle.std.specs.List.{list_all}
-use Rattle.std.proofs.lemmas.Fmt.{decimal_by_steps, decimal_step, decimal_digit}
+use Rattle.std.proofs.lemmas.Fmt.{decimal_by_steps}
 use Rattle.std.proofs.lemmas.Bool.Decides.{nat_tests}
 use Rattle.addr_pattern.specs.AddressText.{is_digit, value_of_digits, no_leading_zero, number_of_text, number_text, worth, ipv4_of, ipv4_text}
 use Rattle.addr_pattern.specs.Cuts.{Lacks, CutsFirst}
+use Rattle.addr_pattern.proofs.Bytes.{all-append}
 use Rattle.addr_pattern.proofs.NumberTexts.{number_text-decimal}
 use Rattle.addr_pattern.proofs.Numbers.{number-is}
 use Rattle.addr_pattern.proofs.Quads.{lacks-number, quad-is}
@@ -12,13 +13,6 @@ use Rattle.addr_pattern.proofs.Quads.{lacks-number, quad-is}
 value-append : (n : ℕ) (ds es : List ℕ) → value_of_digits n (ds ++ es) ≡ value_of_digits (value_of_digits n ds) es
 value-append n [] es = refl
 value-append n (d ∷ ds) es = value-append (n * 10 + (d - 48)) ds es
-
-all-append : (ds es : List ℕ) → list_all is_digit ds ≡ true → list_all is_digit es ≡ true → list_all is_digit (ds ++ es) ≡ true
-all-append [] es h k = k
-all-append (d ∷ ds) es h k =
-    let a : is_digit d ≡ true = grind (arith, h) in
-    let b : list_all is_digit ds ≡ true = grind (arith, h) in
-    rw a (all-append ds es b k)
 
 digit-is : (n : ℕ) → n < 10 → is_digit (48 + n) ≡ true
 digit-is n h = grind (arith, nat_tests)
@@ -32,7 +26,7 @@ decimal-value n h = decimal_by_steps (λ m ds. value_of_digits 0 ds ≡ m)
 decimal-digits : (n : ℕ) → n < 2 ^ 64 → list_all is_digit (decimal n) ≡ true
 decimal-digits n h = decimal_by_steps (λ m ds. list_all is_digit ds ≡ true)
     (λ m small. rw (digit-is m small) refl)
-    (λ m ds big is. all-append ds ((48 + m % 10) ∷ []) is (rw (digit-is (m % 10) (omega arith)) refl))
+    (λ m ds big is. all-append is_digit ds ((48 + m % 10) ∷ []) is (rw (digit-is (m % 10) (omega arith)) refl))
     n h
 
 -- a number has no leading zero: its first digit is no zero where there is a second, as it is at least ten then
@@ -47,8 +41,11 @@ decimal-led n h = (decimal_by_steps (λ m ds. (no_leading_zero ds ≡ true) × (
     (λ m ds big is. let v = is.1 in (led-append ds (48 + m % 10) is.0 (omega (arith, v)), value-append 0 ds ((48 + m % 10) ∷ []) ∙ omega (arith, v)))
     n h).0
 
+pub digits-number : (n : ℕ) → n < 2 ^ 32 → list_all is_digit (number_text n) ≡ true
+digits-number n h = let small : n < 2 ^ 64 = omega arith in ap (list_all is_digit) (number_text-decimal n small) ∙ decimal-digits n small
+
 -- what is written of a number is read as that number
-pub number-inverse : (limit n : ℕ) → limit ≤ 65535 → n ≤ limit → number_of_text limit (number_text n) ≡ Some n
+pub number-inverse : (limit n : ℕ) → limit < 2 ^ 32 → n ≤ limit → number_of_text limit (number_text n) ≡ Some n
 number-inverse limit n l h =
     let small : n < 2 ^ 64 = omega arith in
     let v = decimal-value n small in

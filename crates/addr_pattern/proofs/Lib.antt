@@ -7,3 +7,14 @@ pub mod Gaps
 pub mod Trimming
 mod Worked
 pub mod Inverse
+pub mod Bytes
+pub mod Hexadecimal
+pub mod Joined
+pub mod GroupNumbers
+pub mod InverseSix
+pub mod ReadAddresses
+pub mod ReadPorts
+pub mod PlainTexts
+pub mod ReadPatterns
+pub mod InRange
+pub mod PatternsInRange

@@ -1,10 +1,11 @@
 -- Numbers in decimal digits, read and written.
-use Rattle.std.proofs.Common.{ℕ, suc, ◌≡◌, ◌<◌, ◌≤◌, ◌+◌, ◌-◌, ◌*◌, ◌/◌, ◌%◌, ◌^◌, true, false, ◌==◌, ◌&&◌, nat_le, Bool, Option, Some, None, List, [], ◌∷◌, ◌++◌, drop, get_or, length, sym, subst, ap, ◌∙◌, refl, arith, add-one, cond, if◌then◌else◌, not}
+use Rattle.std.proofs.Common.{inl, inr, ℕ, zero, suc, ◌≡◌, ◌<◌, ◌≤◌, ◌+◌, ◌-◌, ◌*◌, ◌/◌, ◌%◌, ◌^◌, true, false, ◌==◌, ◌&&◌, nat_le, Some, None, List, [], ◌∷◌, ◌++◌, drop, get_or, length, length-append, sym, ap, ◌∙◌, refl, arith, cond, not}
 use Rattle.std.specs.List.{list_all}
-use Rattle.std.specs.Fmt.{decimal}
 use Rattle.std.proofs.lemmas.Fmt.{decimal_step, decimal_digit, length-decimal-le}
 use Rattle.std.proofs.Math.Seq.{drop-cons}
 use Rattle.std.proofs.lemmas.Bool.Decides.{nat_tests}
+use Rattle.std.proofs.lemmas.Bool.{cases_lt}
+use Rattle.std.proofs.Math.Nat.{mul-le-mul_right, pow-succ', mul_assoc}
 use Rattle.addr_pattern.specs.AddressText.{is_digit, value_of_digits, no_leading_zero, number_of_text, number_text}
 use Rattle.addr_pattern.proofs.NumberTexts.{number_text-decimal}
 
@@ -21,22 +22,32 @@ pub value-grows : (n : ℕ) (ds : List ℕ) → n ≤ value_of_digits n ds
 value-grows n [] = omega arith
 value-grows n (d ∷ ds) = let h = value-grows (n * 10 + (d - 48)) ds in omega (arith, h)
 
--- a number with more than five digits is past a port
+-- the first digit of several is at least one
 led : (d : ℕ) → not (d == 48) ≡ true → is_digit d ≡ true → 1 ≤ d - 48
 led d h k = grind (arith, nat_tests)
 
-short : (text : List ℕ) → no_leading_zero text ≡ true → list_all is_digit text ≡ true → value_of_digits 0 text ≤ 65535 → length text ≤ 40
+-- each digit behind a first number makes ten of it
+pub value-long : (k n : ℕ) (ds : List ℕ) → k ≤ length ds → n * 10 ^ k ≤ value_of_digits n ds
+value-long zero n ds h = let g = value-grows n ds in omega (arith, g)
+value-long (suc k) n [] h = absurd (omega arith)
+value-long (suc k) n (d ∷ ds) h =
+    let more = value-long k (n * 10 + (d - 48)) ds (omega (arith, h)) in
+    let grown : (n * 10) * 10 ^ k ≤ (n * 10 + (d - 48)) * 10 ^ k = mul-le-mul_right (10 ^ k) (omega arith) in
+    let step : n * 10 ^ suc k ≡ (n * 10) * 10 ^ k = ap (λ (m : ℕ). n * m) (pow-succ' 10 k) ∙ sym (mul_assoc n 10 (10 ^ k)) in
+    omega (arith, more, grown, step)
+
+-- a number of more than ten digits is past 2 ^ 32
+short : (text : List ℕ) → no_leading_zero text ≡ true → list_all is_digit text ≡ true → value_of_digits 0 text < 2 ^ 32 → length text ≤ 40
 short [] h k v = omega arith
 short (a ∷ []) h k v = omega arith
-short (a ∷ b ∷ []) h k v = omega arith
-short (a ∷ b ∷ c ∷ []) h k v = omega arith
-short (a ∷ b ∷ c ∷ d ∷ []) h k v = omega arith
-short (a ∷ b ∷ c ∷ d ∷ e ∷ []) h k v = omega arith
-short (a ∷ b ∷ c ∷ d ∷ e ∷ f ∷ ds) h k v =
-    let grows = value-grows ((((((0 * 10 + (a - 48)) * 10 + (b - 48)) * 10 + (c - 48)) * 10 + (d - 48)) * 10 + (e - 48)) * 10 + (f - 48)) ds in
-    let digit : is_digit a ≡ true = grind (arith, k) in
-    let one = led a h digit in
-    absurd (omega (arith, grows, one, v))
+short (a ∷ b ∷ ds) h k v = elim (cases_lt 40 (length (a ∷ b ∷ ds))) [ inl more ↦ absurd (past more) | inr fits ↦ fits ]
+  where
+    past : 40 < length (a ∷ b ∷ ds) → ⊥
+    past more =
+        let digit : is_digit a ≡ true = grind (arith, k) in
+        let one = led a h digit in
+        let long = value-long 10 (0 * 10 + (a - 48)) (b ∷ ds) (omega (arith, more)) in
+        omega (arith, long, one, v)
 
 pub number-led : (limit : ℕ) (text : List ℕ) → no_leading_zero text ≡ false → number_of_text limit text ≡ None
 number-led limit text h = rw h refl
@@ -49,7 +60,7 @@ number-past limit text h =
     let k : nat_le (value_of_digits 0 text) limit ≡ false = grind (arith, nat_tests) in
     rw k (elim (no_leading_zero text && list_all is_digit text && nat_le (length text) 40) as (λ b. cond (b && false) (Some (value_of_digits 0 text)) None ≡ None) [ true ↦ refl | false ↦ refl ])
 
-pub number-is : (limit : ℕ) (text : List ℕ) → limit ≤ 65535 → no_leading_zero text ≡ true → list_all is_digit text ≡ true → value_of_digits 0 text ≤ limit → number_of_text limit text ≡ Some (value_of_digits 0 text)
+pub number-is : (limit : ℕ) (text : List ℕ) → limit < 2 ^ 32 → no_leading_zero text ≡ true → list_all is_digit text ≡ true → value_of_digits 0 text ≤ limit → number_of_text limit text ≡ Some (value_of_digits 0 text)
 number-is limit text l h k v =
     let s = short text h k (omega arith) in
     let a : nat_le (length text) 40 ≡ true = grind (arith, nat_tests) in
@@ -63,5 +74,11 @@ number_text-step n h k =
 pub number_text-digit : (n : ℕ) → n < 10 → number_text n ≡ (48 + n) ∷ []
 number_text-digit n h = number_text-decimal n (omega arith) ∙ decimal_digit n h
 
+pub length-number_text-step : (n : ℕ) → n < 2 ^ 64 → 10 ≤ n → length (number_text n) ≡ length (number_text (n / 10)) + 1
+length-number_text-step n h k = ap length (number_text-step n h k) ∙ length-append (number_text (n / 10)) ((48 + n % 10) ∷ [])
+
 pub length-number_text : (n : ℕ) → n < 65536 → length (number_text n) ≤ 5
 length-number_text n h = rw (number_text-decimal n (omega arith)) (length-decimal-le 5 n (omega arith) (omega arith) (omega arith))
+
+pub length-number_text-long : (n : ℕ) → n < 2 ^ 32 → length (number_text n) ≤ 10
+length-number_text-long n h = rw (number_text-decimal n (omega arith)) (length-decimal-le 10 n (omega arith) (omega arith) (omega arith))

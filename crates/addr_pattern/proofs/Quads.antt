@@ -1,9 +1,10 @@
 -- Texts of four numbers with dots between them.
-use Rattle.std.proofs.Common.{ℕ, suc, ◌≡◌, ◌≢◌, ◌≤◌, ◌<◌, ◌+◌, true, false, ◌==◌, ◌&&◌, Bool, ◌⊎◌, inl, inr, Option, Some, None, MatchOption, option_map, option_and_then, List, [], ◌∷◌, ◌++◌, length, sym, subst, ap, ◌∙◌, refl, arith, cond}
+use Rattle.std.proofs.Common.{ℕ, ◌≡◌, ◌≢◌, ◌≤◌, true, false, ◌==◌, ◌⊎◌, inl, inr, Option, Some, None, MatchOption, option_map, option_and_then, List, [], ◌∷◌, length, sym, ap, ◌∙◌, refl, arith}
 use Rattle.std.specs.List.{list_all}
 use Rattle.std.proofs.lemmas.Bool.Decides.{nat_tests}
 use Rattle.addr_pattern.specs.AddressText.{is_digit, number_of_text, parts, map_parts, all_of, worth, ipv4_of, ipv4_of_octets}
 use Rattle.addr_pattern.specs.Cuts.{Lacks, CutsFirst}
+use Rattle.addr_pattern.proofs.Bytes.{lacks-all}
 use Rattle.addr_pattern.proofs.Cutting.{parts-lacks, parts-cut}
 use Rattle.addr_pattern.proofs.Numbers.{number-other}
 
@@ -68,17 +69,10 @@ quad-three text a r b s h k l =
     quad-other text (λ q. omega (arith, e, f, g, q))
 
 -- numbers have no dot
-lacks-digits : (at : ℕ) (text : List ℕ) → is_digit at ≡ false → list_all is_digit text ≡ true → Lacks at text
-lacks-digits at [] d h = tt
-lacks-digits at (x ∷ xs) d h =
-    let a : is_digit x ≡ true = grind (arith, h) in
-    let b : list_all is_digit xs ≡ true = grind (arith, h) in
-    ((λ e. let q = ap is_digit e in cc (a, d, q)), lacks-digits at xs d b)
-
 pub lacks-number : (at limit : ℕ) (text : List ℕ) (n : ℕ) → is_digit at ≡ false → number_of_text limit text ≡ Some n → Lacks at text
 lacks-number at limit text n d h =
     elim (list_all is_digit text) as (λ b. list_all is_digit text ≡ b → Lacks at text) [
-      | true ↦ λ e. lacks-digits at text d e
+      | true ↦ λ e. lacks-all is_digit at text d e
       | false ↦ λ e. let q = number-other limit text e in cc (q, h)
     ] refl
 

@@ -1,5 +1,5 @@
 -- Texts without the blanks at their end.
-use Rattle.std.proofs.Common.{ℕ, suc, ◌≡◌, ◌≢◌, ◌<◌, ◌+◌, ◌-◌, true, false, ◌==◌, List, [], ◌∷◌, ◌++◌, take, get_or, length, sym, ap, ◌∙◌, refl, arith}
+use Rattle.std.proofs.Common.{ℕ, ◌≡◌, ◌≢◌, ◌<◌, ◌+◌, false, ◌==◌, List, [], ◌∷◌, ◌++◌, take, get_or, length, sym, ap, ◌∙◌, refl, arith}
 use Rattle.std.proofs.lemmas.List.{take_more}
 use Rattle.std.proofs.lemmas.Bool.Decides.{nat_tests}
 use Rattle.addr_pattern.specs.PatternText.{trim_end, onto_trimmed}

@@ -1,13 +1,12 @@
 -- The definitions of the texts, at worked texts.
 use Rattle.std.proofs.Common.{◌≡◌, Ok, Err, codes, refl}
 use Rattle.addr_pattern.specs.declared.addr.Addr.{Addr}
-use Rattle.addr_pattern.specs.declared.endpoint.Endpoint.{Endpoint}
 use Rattle.addr_pattern.specs.declared.fault.AddrFault.{AddrFault}
 use Rattle.addr_pattern.specs.declared.pattern.HostPattern.{HostPattern}
 use Rattle.addr_pattern.specs.declared.pattern.PortTest.{PortTest}
-use Rattle.addr_pattern.specs.AddressText.{addr_text, endpoint_text}
+use Rattle.addr_pattern.specs.AddressText.{addr_text}
 use Rattle.addr_pattern.specs.Reading.{addr_read, endpoint_read}
-use Rattle.addr_pattern.specs.PatternText.{pattern_read, host_pattern_read, port_read, pattern_text}
+use Rattle.addr_pattern.specs.PatternText.{pattern_read}
 
 quad : addr_read (codes "192.0.2.1") ≡ Ok (Addr.V4 3221225985)
 quad = refl

@@ -5,4 +5,5 @@ pub mod Groups
 pub mod Matches
 pub mod Names
 pub mod PatternText
+pub mod ReadAgain
 pub mod Reading

@@ -1,5 +1,5 @@
 -- What a text of a host or a pattern stands for, or what is wrong with it; and the text of a pattern.
-use Rattle.std.specs.Prelude.{ℕ, ◌==◌, ◌&&◌, ◌||◌, ◌-◌, ◌%◌, ◌^◌, Bool, true, false, nat_le, if◌then◌else◌, Result, Ok, Err, Option, Some, None, List, [], ◌∷◌, ◌++◌, length, codes, bytes_eq}
+use Rattle.std.specs.Prelude.{ℕ, ◌==◌, ◌&&◌, ◌||◌, ◌-◌, ◌%◌, ◌^◌, Bool, false, nat_le, if◌then◌else◌, Result, Ok, Err, Option, Some, None, List, [], ◌∷◌, ◌++◌, length, codes, bytes_eq}
 use Rattle.std.specs.List.{list_any, list_all}
 use Rattle.addr_pattern.specs.declared.addr.Addr.{Addr}
 use Rattle.addr_pattern.specs.declared.fault.AddrFault.{AddrFault}
@@ -214,6 +214,19 @@ behind_port (Some text) = operator_test text (operator_of (skip_blanks text))
 
 abbrev pub port_read : List ℕ → Option PortTest
 port_read text = behind_port (strip_front (codes "port") (skip_blanks text))
+
+-- behind the word `port`: `=` and a port, or behind a blank a port
+abbrev pub plain_port : List ℕ → Option (List ℕ) → Option ℕ
+plain_port rest (Some digits) = port_of (skip_blanks digits)
+plain_port rest None = if begins_blank rest then port_of (skip_blanks rest) else None
+
+abbrev pub behind_plain_port : Option (List ℕ) → Option ℕ
+behind_plain_port None = None
+behind_plain_port (Some rest) = plain_port rest (strip_front (codes "=") (skip_blanks rest))
+
+-- the port part of an address to listen on or to go to: no operator but `=`, and no range
+abbrev pub port_part : List ℕ → Option ℕ
+port_part text = behind_plain_port (strip_front (codes "port") (skip_blanks text))
 
 -- ---- patterns
 

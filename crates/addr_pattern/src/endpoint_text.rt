@@ -27,7 +27,10 @@ impl Endpoint {
         };
         match read_bracketed(host) {
             Err(fault) => Err(fault),
-            Ok(addr) => Ok(Endpoint { addr, port }),
+            Ok(addr) => Ok(Endpoint {
+                addr,
+                port: port as u16,
+            }),
         }
     }
 

@@ -12,10 +12,10 @@ pub fn read_ipv4(text: &[u8]) -> Option<u32>
     let (first, behind_first) = cut_first(text, b'.')?;
     let (second, behind_second) = cut_first(behind_first, b'.')?;
     let (third, fourth) = cut_first(behind_second, b'.')?;
-    let a = u32::from(read_number(first, 255)?);
-    let b = u32::from(read_number(second, 255)?);
-    let c = u32::from(read_number(third, 255)?);
-    let d = u32::from(read_number(fourth, 255)?);
+    let a = read_number(first, 255)?;
+    let b = read_number(second, 255)?;
+    let c = read_number(third, 255)?;
+    let d = read_number(fourth, 255)?;
     Some(((a * 256 + b) * 256 + c) * 256 + d)
 }
 

@@ -16,6 +16,7 @@ mod host_text;
 mod ipv4;
 mod ipv6;
 mod ipv6_text;
+pub mod laws;
 mod name;
 mod number;
 mod pattern;
@@ -24,12 +25,15 @@ mod port_text;
 mod short;
 
 pub use addr::Addr;
+pub use cut::cut_first;
 pub use endpoint::Endpoint;
 pub use fault::AddrFault;
 pub use front::{BadAt, BadKind, Front, Span};
 pub use host::Host;
 pub use name::Name;
+pub use number::{read_number, write_number};
 pub use pattern::{HostPattern, Pattern, PortTest};
+pub use port_text::read_port_part;
 pub use short::Short;
 
 #[cfg(test)]

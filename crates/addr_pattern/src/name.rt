@@ -63,6 +63,16 @@ impl Name {
         }
     }
 
+    /// The same name; it takes no memory.
+    pub fn copy(&self) -> Name
+        ensures { result ≡ self.now }
+    {
+        Name {
+            bytes: self.bytes,
+            len: self.len,
+        }
+    }
+
     pub fn as_bytes(&self) -> &[u8]
         ensures value { result.now ≡ self.now }
         ensures not_empty { 1 ≤ length self.now }

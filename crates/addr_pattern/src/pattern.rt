@@ -16,6 +16,20 @@ pub enum HostPattern {
 }
 
 impl HostPattern {
+    fn copy(&self) -> HostPattern
+        ensures { result ≡ self.now }
+    {
+        match self {
+            HostPattern::Any => HostPattern::Any,
+            HostPattern::Net { addr, bits } => HostPattern::Net {
+                addr: *addr,
+                bits: *bits,
+            },
+            HostPattern::Name(name) => HostPattern::Name(name.copy()),
+            HostPattern::Domain(name) => HostPattern::Domain(name.copy()),
+        }
+    }
+
     fn matches(&self, name: Option<&Name>, addr: &Addr) -> bool
         ensures { result ≡ host_matches self.now (option_copied name.entry) addr.now }
     {
@@ -72,6 +86,16 @@ pub struct Pattern {
 }
 
 impl Pattern {
+    /// The same pattern; it takes no memory.
+    pub fn copy(&self) -> Pattern
+        ensures { result ≡ self.now }
+    {
+        Pattern {
+            host: self.host.copy(),
+            port: self.port,
+        }
+    }
+
     /// Takes this address and port, reached under this name if any. Names are compared without the case of ASCII
     /// letters and without one closing dot.
     pub fn matches(&self, name: Option<&Name>, addr: &Addr, port: u16) -> bool

@@ -2,7 +2,7 @@ ghost use Rattle.std.specs.Prelude.{◌≡◌, ◌≤◌, ◌+◌, ◌++◌, ◌
 ghost use Rattle.std.specs.List.{list_all};
 ghost use Rattle.addr_pattern.specs.AddressText.{number_of_text};
 ghost use Rattle.addr_pattern.specs.declared.pattern.HostPattern.{HostPattern};
-ghost use Rattle.addr_pattern.specs.PatternText.{is_quad_byte as is_quad_byte_of, has_no_host_bits as has_no_host_bits_of, width_of, family_read, net_of, whole_net, masked, with_test, is_host_byte as is_host_byte_of, is_letter_or_digit as is_letter_or_digit_of, begins_well as begins_well_of, is_host_name as is_host_name_of, name_read, host_pattern_read, pattern_read, port_read, mask_text, host_text, pattern_text};
+ghost use Rattle.addr_pattern.specs.PatternText.{is_quad_byte as is_quad_byte_of, has_no_host_bits as has_no_host_bits_of, width_of, family_read, net_of, whole_net, masked, with_test, is_host_byte as is_host_byte_of, begins_well as begins_well_of, is_host_name as is_host_name_of, name_read, host_pattern_read, pattern_read, port_read, mask_text, host_text, pattern_text};
 
 use crate::addr::Addr;
 use crate::addr_text::{read_v4, read_v6};
@@ -99,7 +99,7 @@ fn are_quad_parts(addr: &[u8], mask: &[u8]) -> bool
 fn is_quad_byte(byte: u8) -> bool
     ensures { result ≡ is_quad_byte_of byte }
 {
-    48 <= byte && byte <= 57 || byte == b'.'
+    byte.is_ascii_digit() || byte == b'.'
 }
 
 fn read_family(six: bool, text: &[u8]) -> Result<Addr, AddrFault>
@@ -143,7 +143,7 @@ fn read_net(six: bool, addr: &[u8], mask: &[u8]) -> Result<HostPattern, AddrFaul
 fn read_masked(addr: Addr, mask: &[u8]) -> Result<HostPattern, AddrFault>
     ensures { result ≡ masked addr (number_of_text (width_of addr) mask.now) }
 {
-    match read_number(mask, u16::from(width(addr))) {
+    match read_number(mask, u32::from(width(addr))) {
         None => Err(AddrFault::BadMask),
         Some(bits) => {
             let bits = bits as u8;
@@ -214,20 +214,14 @@ fn begins_well(text: &[u8]) -> bool
 {
     match text {
         [] => false,
-        [first, ..] => is_letter_or_digit(*first),
+        [first, ..] => first.is_ascii_alphanumeric(),
     }
 }
 
 fn is_host_byte(byte: u8) -> bool
     ensures { result ≡ is_host_byte_of byte }
 {
-    is_letter_or_digit(byte) || byte == b'-' || byte == b'.' || byte == b'_'
-}
-
-fn is_letter_or_digit(byte: u8) -> bool
-    ensures { result ≡ is_letter_or_digit_of byte }
-{
-    48 <= byte && byte <= 57 || 65 <= byte && byte <= 90 || 97 <= byte && byte <= 122
+    byte.is_ascii_alphanumeric() || byte == b'-' || byte == b'.' || byte == b'_'
 }
 
 /// Puts the host behind what the text holds.

@@ -1,6 +1,6 @@
 ghost use Rattle.std.specs.Prelude.{◌≡◌, ◌≤◌, ◌+◌, ◌++◌, Some, None, MatchOption, length};
 ghost use Rattle.addr_pattern.specs.AddressText.{number_text};
-ghost use Rattle.addr_pattern.specs.PatternText.{service_of, port_of, test_of, sign_operator, word_operator, operator_of, range_of, bare_test as bare_test_of, begins_blank as begins_blank_of, behind_port as behind_port_of, port_read, port_text};
+ghost use Rattle.addr_pattern.specs.PatternText.{service_of, port_of, test_of, sign_operator, word_operator, operator_of, range_of, bare_test as bare_test_of, begins_blank as begins_blank_of, behind_port as behind_port_of, port_read, behind_plain_port, port_part, port_text};
 
 use crate::blanks::{is_word, skip_blanks, strip_front, trim_end};
 use crate::cut::cut_first;
@@ -76,7 +76,7 @@ fn read_port(text: &[u8]) -> Option<u16>
     ensures { result ≡ port_of text.now }
 {
     match read_number(text, 65535) {
-        Some(port) => Some(port),
+        Some(port) => Some(port as u16),
         None => service(text),
     }
 }
@@ -196,6 +196,30 @@ fn read_behind(text: &[u8]) -> Option<PortTest>
         read_bare(skip_blanks(text))
     } else {
         None
+    }
+}
+
+/// The port part of an address to listen on or to go to: `port`, and `=` or a blank before the one port. Blanks round
+/// `=` are optional.
+pub fn read_port_part(text: &[u8]) -> Option<u16>
+    ensures { result ≡ port_part text.now }
+{
+    let behind = strip_front(skip_blanks(text), b"port")?;
+    read_plain_port(behind)
+}
+
+fn read_plain_port(text: &[u8]) -> Option<u16>
+    ensures { result ≡ behind_plain_port (Some text.now) }
+{
+    match strip_front(skip_blanks(text), b"=") {
+        Some(digits) => read_port(skip_blanks(digits)),
+        None => {
+            if begins_blank(text) {
+                read_port(skip_blanks(text))
+            } else {
+                None
+            }
+        }
     }
 }
 

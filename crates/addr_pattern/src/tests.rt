@@ -1,4 +1,7 @@
-use super::{Addr, AddrFault, Endpoint, Host, HostPattern, Name, Pattern, PortTest};
+use super::{
+    Addr, AddrFault, Endpoint, Host, HostPattern, Name, Pattern, PortTest, read_number,
+    read_port_part, write_number,
+};
 use std::test::Fail;
 
 fn name(text: &str) -> Result<Name, AddrFault> {
@@ -165,6 +168,52 @@ fn endpoints(rt: HostRuntime) -> Result<(), Fail> {
 }
 
 #[test]
+fn numbers(rt: HostRuntime) -> Result<(), Fail> {
+    let texts = [
+        ("0", Some(0)),
+        ("10", Some(10)),
+        ("65536", Some(65536)),
+        ("4294967295", Some(4_294_967_295)),
+        ("4294967296", None),
+        ("99999999999999999999", None),
+        ("", None),
+        ("00", None),
+        ("07", None),
+        ("+7", None),
+    ];
+    for (text, number) in texts {
+        assert_eq!(rt; read_number(text.as_bytes(), u32::MAX), number, "{text}");
+        if let Some(number) = number {
+            assert_eq!(rt; write_number(number).as_slice(), text.as_bytes());
+        }
+    }
+    assert_eq!(rt; read_number(b"60", 60), Some(60));
+    assert_eq!(rt; read_number(b"61", 60), None);
+    Ok(())
+}
+
+#[test]
+fn port_parts(rt: HostRuntime) -> Result<(), Fail> {
+    let texts = [
+        ("port 1080", Some(1080)),
+        ("port = 1080", Some(1080)),
+        (" port=socks", Some(1080)),
+        ("port  =  http", Some(80)),
+        ("port1080", None),
+        ("port eq 1080", None),
+        ("port != 1080", None),
+        ("port 1-1080", None),
+        ("port", None),
+        ("port 65536", None),
+        ("port 1080 ", None),
+    ];
+    for (text, port) in texts {
+        assert_eq!(rt; read_port_part(text.as_bytes()), port, "{text}");
+    }
+    Ok(())
+}
+
+#[test]
 fn hosts(rt: HostRuntime) -> Result<(), Fail> {
     assert!(rt; matches!(Host::read(b"::1")?, Host::Addr(Addr::V6(1))));
     assert!(rt; matches!(Host::read(b"1.2.3.400")?, Host::Name(_)));
@@ -205,10 +254,9 @@ fn patterns(rt: HostRuntime) -> Result<(), Fail> {
         ("a-b_c.d..", "a-b_c.d.."),
     ];
     for (text, written) in texts {
-        assert_eq!(rt;
-            Pattern::read(text.as_bytes())?.write().as_slice(),
-            written.as_bytes()
-        );
+        let pattern = Pattern::read(text.as_bytes())?;
+        assert_eq!(rt; pattern.write().as_slice(), written.as_bytes());
+        assert_eq!(rt; pattern.copy().write().as_slice(), written.as_bytes());
     }
     Ok(())
 }

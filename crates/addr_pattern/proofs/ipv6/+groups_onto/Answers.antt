@@ -1,5 +1,5 @@
-use Rattle.std.proofs.Common.{◌≡◌, ◌∷◌, ◌++◌, [], Some, None, option_map, sym, ap, ◌∙◌}
-use Rattle.addr_pattern.specs.AddressText.{groups_of_parts, group_of, both, parts}
+use Rattle.std.proofs.Common.{◌∷◌, ◌++◌, [], option_map, sym, ap, ◌∙◌}
+use Rattle.addr_pattern.specs.AddressText.{groups_of_parts, both, parts}
 use Rattle.addr_pattern.specs.Groups.{groups_onto}
 use Rattle.addr_pattern.proofs.Cutting.{parts-lacks}
 use Rattle.addr_pattern.proofs.Gaps.{groups-first, onto-none, onto-one, onto-full, eight-is}

@@ -1,4 +1,4 @@
-use Rattle.std.proofs.Common.{◌<◌, length, false, sym, ap, ◌∙◌, arith}
+use Rattle.std.proofs.Common.{◌<◌, length, sym, ap, ◌∙◌, arith}
 use Rattle.std.proofs.lemmas.Bool.Decides.{nat_tests}
 use Rattle.addr_pattern.specs.AddressText.{groups_of_parts, parts}
 use Rattle.addr_pattern.specs.Groups.{groups_onto, at_most_eight}

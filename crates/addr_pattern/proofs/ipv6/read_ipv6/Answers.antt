@@ -1,6 +1,6 @@
 use Rattle.std.proofs.Common.{◌≡◌, false, ◌==◌, Some, option_map, sym, ap, ◌∙◌}
 use Rattle.std.specs.List.{list_any}
-use Rattle.addr_pattern.specs.AddressText.{worth, groups_of, filled, whole_groups}
+use Rattle.addr_pattern.specs.AddressText.{worth, groups_of, filled}
 use Rattle.addr_pattern.proofs.Gaps.{ipv6-whole, ipv6-gap, eight-none, eight-left, eight-right, eight-some}
 use Rattle.addr_pattern.proofs.ipv6.read_ipv6.Goals as goal
 
