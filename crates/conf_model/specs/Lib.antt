@@ -1,8 +1,17 @@
+pub mod Blocks
+pub mod Canonical
 pub mod Dialogue
 pub mod Equal
 pub mod Fronts
 pub mod Grammar
 pub mod Handshake
+pub mod Kept
+pub mod Keys
 pub mod Plain
+pub mod Reads
+pub mod Settings
 pub mod Stable
+pub mod Taking
 pub mod Users
+pub mod Values
+pub mod Writing

@@ -1,0 +1,7 @@
+use Rattle.std.proofs.Common.{◌∙◌}
+use Rattle.std.specs.Prelude.{codes}
+use Rattle.conf_model.proofs.Adding.{adds_set}
+use Rattle.conf_model.proofs.write.add_protocols.Goals as goal
+
+pub returns : goal.returns
+returns c = adds_set _ _ (codes "protocol") _ _ _ _ c.in_ok-add_set.ensures c.both-all.ensures (c.as_slice.ensures ∙ c.in_ok-words.ensures)

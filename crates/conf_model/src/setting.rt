@@ -1,0 +1,23 @@
+use crate::protocol::Method;
+use crate::route::Route;
+use crate::rule::{ClientRule, SocksRule};
+use addr_pattern::{Addr, Endpoint};
+use conf_text::List;
+
+/// What one statement says.
+#[derive(Drop)]
+pub enum Setting {
+    Internal(Endpoint),
+    External(Addr),
+    Control(Endpoint),
+    Methods(List<Method>),
+    /// Seconds for a prelude; 0 is no limit.
+    Negotiate(u32),
+    /// Seconds without a byte in a relay; 0 is no limit.
+    Io(u32),
+    Client(ClientRule),
+    Socks(SocksRule),
+    Route(Route),
+    /// It is read and changes nothing.
+    NoEffect,
+}
