@@ -1,8 +1,12 @@
 -- The outside in memory: what each object holds, and what it tells of that.
-use Rattle.std.specs.Prelude.{◌≡◌, ℕ, Bool, true, false, Option, Some, None, List, []}
+use Rattle.std.specs.Prelude.{◌≡◌, ℕ, Bool, true, false, Option, Some, None, List, [], find, option_map, bytes_eq}
 use Rattle.addr_pattern.specs.declared.endpoint.Endpoint.{Endpoint}
+use Rattle.net_ends.specs.Callers.{CallOutcome, CallerTold, returned_of}
 use Rattle.net_ends.specs.Counts.{Counts}
+use Rattle.net_ends.specs.Failing.{Failing, none_failing}
 use Rattle.net_ends.specs.Nets.{DialOutcome, NetTold, DialCounts}
+use Rattle.net_ends.specs.Stores.{Files}
+use Rattle.net_ends.specs.Streams.{SourceTold}
 use Rattle.net_ends.specs.Told.{Told}
 
 -- a link: what arrived at it and what it gave of that, what it took and how many bytes it can take in all; none of its calls
@@ -16,6 +20,7 @@ pub record LinkInMemory : Type 0 where
   pub ended : Bool
   pub shut : Bool
   pub unfailing : Bool
+  pub failing : Failing
   pub counts : Counts
 
 -- it tells all of that
@@ -41,6 +46,7 @@ fresh_link cap = record {
   ended = false;
   shut = false;
   unfailing = true;
+  failing = none_failing;
   counts = record { faults = 0; idle_reads = 0; idle_writes = 0 };
 }
 
@@ -93,18 +99,96 @@ link_left DialOutcome.Fault link = link
 pub record SourceInMemory : Type 0 where
   pub whole : List ℕ
   pub given : List ℕ
+  pub failing : Failing
   pub faults : ℕ
 
 -- a sink: what it took, and how many bytes it can take in all
 pub record SinkInMemory : Type 0 where
   pub taken : List ℕ
   pub cap : ℕ
+  pub failing : Failing
   pub faults : ℕ
+
+-- they tell all of that
+abbrev pub told_of_source : SourceInMemory → Option SourceTold
+told_of_source source = Some (record { given = source.given; whole = source.whole })
+
+abbrev pub told_of_sink : SinkInMemory → Option (List ℕ)
+told_of_sink sink = Some sink.taken
 
 -- nothing was put into it yet
 abbrev pub fresh_source : SourceInMemory
-fresh_source = record { whole = []; given = []; faults = 0 }
+fresh_source = record { whole = []; given = []; failing = none_failing; faults = 0 }
 
 -- it took nothing yet, and can take that many bytes
 abbrev pub fresh_sink : ℕ → SinkInMemory
-fresh_sink cap = record { taken = []; cap = cap; faults = 0 }
+fresh_sink cap = record { taken = []; cap = cap; failing = none_failing; faults = 0 }
+
+-- a store: its files, each a name and what it holds, in the order in which they were put; none of its calls is to fail where
+-- it is unfailing
+pub record StoreInMemory : Type 0 where
+  pub files : List (List ℕ × List ℕ)
+  pub unfailing : Bool
+  pub failing : Failing
+  pub faults : ℕ
+
+-- nothing was put into it yet
+abbrev pub fresh_store : StoreInMemory
+fresh_store = record { files = []; unfailing = true; failing = none_failing; faults = 0 }
+
+abbrev pub is_named : List ℕ → List ℕ × List ℕ → Bool
+is_named name file = bytes_eq file.0 name
+
+-- what the first file of a name holds
+abbrev pub content_of : List (List ℕ × List ℕ) → Files
+content_of files name = option_map (λ file. file.1) (find (is_named name) files)
+
+-- it tells what its files hold
+abbrev pub told_of_store : StoreInMemory → Option Files
+told_of_store store = Some (content_of store.files)
+
+-- a wire, which holds what a link does, that never failed and wasn't used
+pub record IsUnusedWire (wire : LinkInMemory) : Type 0 where
+  pub unused : IsUnused wire
+  pub faultless : wire.counts.faults ≡ 0
+
+-- a caller: how its next call comes out, the wire that it then gives, where the last call went and the wire that came back last
+pub record CallerInMemory : Type 0 where
+  pub outcome : CallOutcome
+  pub wire : LinkInMemory
+  pub last : Option Endpoint
+  pub returned : Option LinkInMemory
+  pub counts : DialCounts
+
+-- It tells the plan of its next call, and all of the wire that came back. It keeps no list of its calls.
+abbrev pub told_of_caller : CallerInMemory → CallerTold
+told_of_caller caller = record {
+  calls = None;
+  plan = Some (record { outcome = caller.outcome; wire = told_of_link caller.wire });
+  returned = option_map (λ wire. returned_of (told_of_link wire) wire.counts) caller.returned;
+}
+
+-- its next call is refused, and the wire that waits can take that many bytes
+abbrev pub fresh_caller : ℕ → CallerInMemory
+fresh_caller cap = record {
+  outcome = CallOutcome.WasRefused;
+  wire = fresh_link cap;
+  last = None;
+  returned = None;
+  counts = record { refused = 0; no_host = 0; no_net = 0; faults = 0 };
+}
+
+-- what a call leaves: a wire is given once, and then the next call is refused
+abbrev pub call_left : CallOutcome → CallOutcome
+call_left CallOutcome.CameUp = CallOutcome.WasRefused
+call_left CallOutcome.WasRefused = CallOutcome.WasRefused
+call_left CallOutcome.NoHost = CallOutcome.NoHost
+call_left CallOutcome.NoNet = CallOutcome.NoNet
+call_left CallOutcome.Fault = CallOutcome.Fault
+
+abbrev pub wire_left : CallOutcome → LinkInMemory → LinkInMemory
+wire_left CallOutcome.CameUp wire = fresh_link 0
+wire_left CallOutcome.WasRefused wire = wire
+wire_left CallOutcome.NoHost wire = wire
+wire_left CallOutcome.NoNet wire = wire
+wire_left CallOutcome.Fault wire = wire

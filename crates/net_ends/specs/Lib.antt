@@ -1,6 +1,10 @@
+pub mod Callers
 pub mod Counts
+pub mod Failing
 pub mod InMemory
 pub mod Nets
 pub mod Plans
+pub mod Stores
 pub mod Streams
 pub mod Told
+pub mod Wires

@@ -1,23 +1,35 @@
-//! The outside: links, nets, sources and sinks, and their forms in memory.
+//! The outside: links, nets, sources, sinks, stores, wires and callers, and their forms in memory.
 #![tactic(auto)]
 
+mod caller;
 mod failing;
 mod link;
+mod memory_caller;
 mod memory_link;
 mod memory_net;
 mod memory_sink;
 mod memory_source;
+mod memory_store;
+mod memory_wire;
 mod net;
 mod pieces;
+mod store;
 mod stream;
+mod wire;
 
+pub use caller::{Caller, Calling};
 pub use link::{Link, Reading, Shutting, Writing};
+pub use memory_caller::{CallPlan, MemCaller};
 pub use memory_link::MemLink;
 pub use memory_net::{DialPlan, MemNet};
 pub use memory_sink::MemSink;
 pub use memory_source::MemSource;
+pub use memory_store::MemStore;
+pub use memory_wire::MemWire;
 pub use net::{Dialing, Net};
+pub use store::{Store, Stored};
 pub use stream::{Giving, Sink, Source, Taking};
+pub use wire::Wire;
 
 #[cfg(test)]
 mod tests;

@@ -1,4 +1,4 @@
-ghost use Rattle.std.specs.Prelude.{◌≡◌, ◌≤◌, ◌+◌, ◌++◌, true, false, IfOk, OnOk, OnErr, length};
+ghost use Rattle.std.specs.Prelude.{◌≡◌, ◌<◌, ◌≤◌, ◌+◌, ◌++◌, true, false, IfOk, OnOk, OnErr, length};
 
 use crate::failing::FailingCalls;
 use crate::link::{Link, Reading, Shutting, Writing};
@@ -37,7 +37,8 @@ impl Model for MemLink {
       cap = m.cap;
       ended = m.ended;
       shut = m.shut;
-      unfailing = length m.failing == 0;
+      unfailing = length m.failing.numbers == 0;
+      failing = m.failing;
       counts = record { faults = m.faults; idle_reads = m.idle_reads; idle_writes = m.idle_writes };
     } };
 
@@ -45,6 +46,7 @@ impl Model for MemLink {
 }
 
 impl MemLink {
+    ghost use Rattle.net_ends.specs.Failing.{with_failure};
     ghost use Rattle.net_ends.specs.InMemory.{fresh_link};
 
     /// A link at which nothing has arrived yet, with room for that many bytes that it takes.
@@ -126,7 +128,7 @@ impl MemLink {
 
     /// The call of this number, counted from 1 over all calls, is to fail.
     pub fn fail_at(&mut self, number: u64) -> Result<(), Memory>
-        ensures ok { OnOk result (self.new ≡ record self.old { unfailing = false }) }
+        ensures ok { OnOk result (self.new ≡ record self.old { unfailing = false; failing = with_failure self.old.failing number }) }
         ensures err { OnErr result (self.new ≡ self.old) }
     {
         self.failing.add(number)
@@ -155,13 +157,27 @@ impl MemLink {
 }
 
 impl Link for MemLink {
+    ghost use Rattle.net_ends.specs.Told.{after_read, after_write, after_shut, MayRead, MayWrite, MayShut, GivesArrived};
+    ghost use Rattle.net_ends.specs.Counts.{Later, ReadCause, WriteCause, ShutCause};
+    ghost use Rattle.net_ends.specs.Failing.{after_call, is_to_fail, is_failed_reading, is_failed_writing, is_failed_shutting};
     ghost use Rattle.net_ends.specs.InMemory.{told_of_link};
 
     ghost told = { told_of_link };
 
     ghost counts = { λ link. link.counts };
 
-    fn read(&mut self, into: &mut [u8]) -> Reading {
+    fn read(&mut self, into: &mut [u8]) -> Reading
+        requires { 0 < length into.old }
+        ensures answer { MayRead (told_of_link self.old) (length into.old) result }
+        ensures told { told_of_link self.new ≡ after_read (told_of_link self.old) result into.new }
+        ensures arrived { GivesArrived (told_of_link self.new) result }
+        ensures later { Later self.old.counts self.new.counts }
+        ensures cause { ReadCause self.old.counts self.new.counts result }
+
+        // Beside the clauses of the trait: it fails at the numbered calls and nowhere else.
+        ensures counted { self.new.failing ≡ after_call self.old.failing }
+        ensures failed { is_failed_reading result ≡ is_to_fail self.new.failing }
+    {
         if self.failing.next_fails() {
             self.faults = self.faults.saturating_add(1);
             return Reading::Failed;
@@ -180,7 +196,17 @@ impl Link for MemLink {
         Reading::Got(n)
     }
 
-    fn write(&mut self, from: &[u8]) -> Writing {
+    fn write(&mut self, from: &[u8]) -> Writing
+        requires { 0 < length from.now }
+        ensures answer { MayWrite (told_of_link self.old) (length from.now) result }
+        ensures told { told_of_link self.new ≡ after_write (told_of_link self.old) result from.now }
+        ensures later { Later self.old.counts self.new.counts }
+        ensures cause { WriteCause self.old.counts self.new.counts result }
+
+        // Beside the clauses of the trait, as for a read.
+        ensures counted { self.new.failing ≡ after_call self.old.failing }
+        ensures failed { is_failed_writing result ≡ is_to_fail self.new.failing }
+    {
         if self.failing.next_fails() {
             self.faults = self.faults.saturating_add(1);
             return Writing::Failed;
@@ -196,7 +222,16 @@ impl Link for MemLink {
         }
     }
 
-    fn shut(&mut self) -> Shutting {
+    fn shut(&mut self) -> Shutting
+        ensures answer { MayShut (told_of_link self.old) result }
+        ensures told { told_of_link self.new ≡ after_shut (told_of_link self.old) result }
+        ensures later { Later self.old.counts self.new.counts }
+        ensures cause { ShutCause self.old.counts self.new.counts result }
+
+        // Beside the clauses of the trait, as for a read.
+        ensures counted { self.new.failing ≡ after_call self.old.failing }
+        ensures failed { is_failed_shutting result ≡ is_to_fail self.new.failing }
+    {
         if self.failing.next_fails() {
             self.faults = self.faults.saturating_add(1);
             return Shutting::Failed;

@@ -1,4 +1,4 @@
-ghost use Rattle.std.specs.Prelude.{◌≡◌, IfOk};
+ghost use Rattle.std.specs.Prelude.{◌≡◌, IfOk, OnOk, OnErr};
 
 use crate::failing::FailingCalls;
 use crate::stream::{Giving, Sink};
@@ -21,12 +21,13 @@ impl Model for MemSink {
 
     ghost Value = { SinkInMemory };
 
-    ghost view = { λ m. record { taken = m.taken.items; cap = m.cap; faults = m.faults } };
+    ghost view = { λ m. record { taken = m.taken.items; cap = m.cap; failing = m.failing; faults = m.faults } };
 
     ghost invariant = { λ m. (vec_len m.taken ≤ m.cap) × (m.cap ≤ vec_capacity m.taken) };
 }
 
 impl MemSink {
+    ghost use Rattle.net_ends.specs.Failing.{with_failure};
     ghost use Rattle.net_ends.specs.InMemory.{fresh_sink};
 
     /// A sink that took nothing yet, with room for that many bytes.
@@ -46,7 +47,8 @@ impl MemSink {
 
     /// The write of this number, counted from 1, is to fail.
     pub fn fail_at(&mut self, number: u64) -> Result<(), Memory>
-        ensures { self.new ≡ self.old }
+        ensures ok { OnOk result (self.new ≡ record self.old { failing = with_failure self.old.failing number }) }
+        ensures err { OnErr result (self.new ≡ self.old) }
     {
         self.failing.add(number)
     }
@@ -60,13 +62,26 @@ impl MemSink {
 }
 
 impl Sink for MemSink {
-    ghost use Rattle.std.specs.Prelude.{Some};
+    ghost use Rattle.std.specs.Prelude.{◌<◌, ◌≤◌, ◌||◌, length, nat_le};
+    ghost use Rattle.net_ends.specs.Failing.{after_call, is_to_fail, is_failed_giving};
+    ghost use Rattle.net_ends.specs.InMemory.{told_of_sink};
+    ghost use Rattle.net_ends.specs.Streams.{MayTake, GivingCause, after_giving};
 
-    ghost told = { λ sink. Some sink.taken };
+    ghost told = { told_of_sink };
 
     ghost faults = { λ sink. sink.faults };
 
-    fn write(&mut self, from: &[u8]) -> Giving {
+    fn write(&mut self, from: &[u8]) -> Giving
+        requires { 0 < length from.now }
+        ensures answer { MayTake (length from.now) result }
+        ensures told { told_of_sink self.new ≡ after_giving (told_of_sink self.old) result from.now }
+        ensures later { self.old.faults ≤ self.new.faults }
+        ensures cause { GivingCause self.old.faults self.new.faults result }
+
+        // Beside the clauses of the trait: it fails at the numbered writes and where it is full, and nowhere else.
+        ensures counted { self.new.failing ≡ after_call self.old.failing }
+        ensures failed { is_failed_giving result ≡ (is_to_fail self.new.failing || nat_le self.old.cap (length self.old.taken)) }
+    {
         let room = self.cap - self.taken.len();
         if self.failing.next_fails() || room == 0 {
             self.faults = self.faults.saturating_add(1);

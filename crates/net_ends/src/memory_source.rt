@@ -22,12 +22,13 @@ impl Model for MemSource {
 
     ghost Value = { SourceInMemory };
 
-    ghost view = { λ m. record { whole = m.whole; given = take m.given m.whole; faults = m.faults } };
+    ghost view = { λ m. record { whole = m.whole; given = take m.given m.whole; failing = m.failing; faults = m.faults } };
 
     ghost invariant = { λ m. m.given ≤ length m.whole };
 }
 
 impl MemSource {
+    ghost use Rattle.net_ends.specs.Failing.{with_failure};
     ghost use Rattle.net_ends.specs.InMemory.{fresh_source};
 
     /// A source that has nothing to give yet, with room for that many bytes.
@@ -58,20 +59,34 @@ impl MemSource {
 
     /// The read of this number, counted from 1, is to fail.
     pub fn fail_at(&mut self, number: u64) -> Result<(), Memory>
-        ensures { self.new ≡ self.old }
+        ensures ok { OnOk result (self.new ≡ record self.old { failing = with_failure self.old.failing number }) }
+        ensures err { OnErr result (self.new ≡ self.old) }
     {
         self.failing.add(number)
     }
 }
 
 impl Source for MemSource {
-    ghost use Rattle.std.specs.Prelude.{Some};
+    ghost use Rattle.std.specs.Prelude.{◌<◌, ◌≤◌, length};
+    ghost use Rattle.net_ends.specs.Failing.{after_call, is_to_fail, is_failed_taking};
+    ghost use Rattle.net_ends.specs.InMemory.{told_of_source};
+    ghost use Rattle.net_ends.specs.Streams.{GivesTold, MayGive, TakingCause};
 
-    ghost told = { λ source. Some (record { given = source.given; whole = source.whole }) };
+    ghost told = { told_of_source };
 
     ghost faults = { λ source. source.faults };
 
-    fn read(&mut self, into: &mut [u8]) -> Taking {
+    fn read(&mut self, into: &mut [u8]) -> Taking
+        requires { 0 < length into.old }
+        ensures answer { MayGive (length into.old) result }
+        ensures told { GivesTold (told_of_source self.old) (told_of_source self.new) result into.new }
+        ensures later { self.old.faults ≤ self.new.faults }
+        ensures cause { TakingCause self.old.faults self.new.faults result }
+
+        // Beside the clauses of the trait: it fails at the numbered reads and nowhere else.
+        ensures counted { self.new.failing ≡ after_call self.old.failing }
+        ensures failed { is_failed_taking result ≡ is_to_fail self.new.failing }
+    {
         if self.failing.next_fails() {
             self.faults = self.faults.saturating_add(1);
             return Taking::Failed;

@@ -1,5 +1,5 @@
 //! Parts of slices.
-ghost use Rattle.std.specs.Prelude.{◌≡◌, ◌≤◌, min, drop, take, length};
+ghost use Rattle.std.specs.Prelude.{◌≡◌, ◌≤◌, ◌+◌, min, drop, take, length};
 
 /// What stands behind the first bytes.
 pub fn rest_of(bytes: &[u8], at: usize) -> &[u8]
@@ -7,6 +7,16 @@ pub fn rest_of(bytes: &[u8], at: usize) -> &[u8]
     ensures { result.now ≡ drop at bytes.now }
 {
     &bytes[at..]
+}
+
+/// The first bytes, one more than the limit at most.
+pub fn front_of(bytes: &[u8], limit: usize) -> &[u8]
+    ensures { result.now ≡ take (limit + 1) bytes.now }
+{
+    if bytes.len() <= limit {
+        return bytes;
+    }
+    &bytes[..limit + 1]
 }
 
 /// Copies as much as there is room for to the front of a buffer, and answers how many bytes those are.

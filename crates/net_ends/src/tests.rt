@@ -128,3 +128,160 @@ fn full_sink_fails(rt: HostRuntime) -> Result<(), Fail> {
     assert_eq!(rt; sink.taken(), b"abc".as_slice());
     Ok(())
 }
+
+fn read_files<S: Store>(
+    store: &mut S,
+    alloc: Global,
+    names: &[(&str, &str)],
+) -> Result<usize, usize> {
+    for (number, (name, wanted)) in names.iter().enumerate() {
+        let right = match store.read_file(alloc, name, 3) {
+            Stored::Read(text) => text.as_slice() == wanted.as_bytes(),
+            Stored::Failed => *wanted == "-",
+            Stored::Memory => false,
+        };
+        if !right {
+            return Err(number);
+        }
+    }
+    Ok(names.len())
+}
+
+#[test]
+fn store_reads_the_front_of_the_first_of_a_name(rt: HostRuntime) -> Result<(), Fail> {
+    let mut store = MemStore::make(rt.alloc(), 2).ok().ok_or("memory")?;
+    let files = [("a", "abc"), ("b", "abcdef"), ("a", "x"), ("", "")];
+    for (name, content) in &files {
+        store.put(name, content.as_bytes()).ok().ok_or("memory")?;
+    }
+    store.fail_at(2).ok().ok_or("memory")?;
+    let names = [
+        ("a", "abc"),
+        ("a", "-"),
+        ("b", "abcd"),
+        ("", ""),
+        ("c", "-"),
+        ("a", "abc"),
+    ];
+    assert_eq!(rt; read_files(&mut store, rt.alloc(), &names), Ok(6));
+    Ok(())
+}
+
+/// A read, a glance, a write and a shut.
+fn use_wire<W: Wire>(wire: &mut W) -> (Taking, Reading, Giving, Shutting) {
+    let mut buffer = [0; 2];
+    (
+        wire.read(&mut buffer),
+        wire.glance(&mut buffer),
+        wire.write(b"ab"),
+        wire.shut(),
+    )
+}
+
+#[test]
+fn wire_answers_in_turn(rt: HostRuntime) -> Result<(), Fail> {
+    let (took, done) = (Giving::Took(1), Shutting::Done);
+    let none: &[u64] = &[];
+    let rows = [
+        (
+            "abc",
+            true,
+            none,
+            (Taking::Got(2), Reading::Got(1), took, done),
+        ),
+        ("ab", true, none, (Taking::Got(2), Reading::End, took, done)),
+        (
+            "ab",
+            false,
+            none,
+            (Taking::Got(2), Reading::NotYet, took, done),
+        ),
+        ("", true, none, (Taking::End, Reading::End, took, done)),
+        (
+            "",
+            false,
+            none,
+            (Taking::Failed, Reading::NotYet, took, done),
+        ),
+        (
+            "abc",
+            true,
+            &[1, 3],
+            (Taking::Failed, Reading::Got(2), Giving::Failed, done),
+        ),
+        (
+            "abc",
+            true,
+            &[2, 4],
+            (Taking::Got(2), Reading::Failed, took, Shutting::Failed),
+        ),
+    ];
+    for (arrived, ends, fails, wanted) in &rows {
+        let mut wire = MemWire::make(rt.alloc(), 1).ok().ok_or("memory")?;
+        wire.arrive(arrived.as_bytes()).ok().ok_or("memory")?;
+        if *ends {
+            wire.end();
+        }
+        for number in *fails {
+            wire.fail_at(*number).ok().ok_or("memory")?;
+        }
+        assert_eq!(rt; use_wire(&mut wire), *wanted);
+    }
+    Ok(())
+}
+
+#[test]
+fn full_wire_fails(rt: HostRuntime) -> Result<(), Fail> {
+    let mut wire = MemWire::make(rt.alloc(), 0).ok().ok_or("memory")?;
+    assert_eq!(rt; wire.write(b"a"), Giving::Failed);
+    wire.spare(1).ok().ok_or("memory")?;
+    assert_eq!(rt; wire.write(b"a"), Giving::Took(1));
+    assert_eq!(rt; wire.taken(), b"a".as_slice());
+    assert!(rt; !wire.was_shut());
+    assert_eq!(rt; wire.shut(), Shutting::Done);
+    assert!(rt; wire.was_shut());
+    Ok(())
+}
+
+/// Calls, and gives back the wire that it got, read once.
+fn call_once<C: Caller>(caller: &mut C) -> CallPlan {
+    match caller.call(TARGET) {
+        Calling::Up(mut wire) => {
+            let mut buffer = [0; 2];
+            wire.read(&mut buffer);
+            caller.back(wire);
+            CallPlan::Up
+        }
+        Calling::Refused => CallPlan::Refused,
+        Calling::HostUnreachable => CallPlan::HostUnreachable,
+        Calling::NetUnreachable => CallPlan::NetUnreachable,
+        Calling::Failed => CallPlan::Failed,
+    }
+}
+
+#[test]
+fn caller_answers_as_planned(rt: HostRuntime) -> Result<(), Fail> {
+    let mut caller = MemCaller::make(rt.alloc(), 1).ok().ok_or("memory")?;
+    assert_eq!(rt; call_once(&mut caller), CallPlan::Refused);
+    assert!(rt; caller.returned().is_none());
+    let mut wire = MemWire::make(rt.alloc(), 1).ok().ok_or("memory")?;
+    wire.end();
+    caller.offer(wire);
+    let plans = [
+        CallPlan::Failed,
+        CallPlan::NetUnreachable,
+        CallPlan::HostUnreachable,
+        CallPlan::Up,
+        CallPlan::Refused,
+    ];
+    for plan in &plans {
+        caller.plan(*plan);
+        assert_eq!(rt; call_once(&mut caller), *plan);
+    }
+    assert_eq!(rt; caller.last_call(), Some(TARGET));
+    let Some(wire) = caller.returned() else {
+        return Err("a wire came back".into());
+    };
+    assert!(rt; wire.has_ended());
+    Ok(())
+}

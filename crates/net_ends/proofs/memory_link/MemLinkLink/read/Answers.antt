@@ -1,4 +1,5 @@
 use Rattle.std.proofs.Common.{◌≡◌, ◌==◌, ◌+◌, ℕ, Bool, List, Some, length, take, drop, ap, ◌∙◌}
+use Rattle.net_ends.specs.Failing.{Failing}
 use Rattle.net_ends.specs.Told.{Told}
 use Rattle.net_ends.proofs.Parts.{given_more, given_part}
 use Rattle.net_ends.proofs.memory_link.MemLinkLink.read.Goals as goal
@@ -13,8 +14,8 @@ returns-clause-told c =
     let now = c.self.inside in
     let front : take c.copy_front-n.result c.copy_front-n.new.into ≡ take c.copy_front-n.result (drop now.given now.arrived) =
     c.copy_front-n.ensures.front ∙ ap (λ (z : List ℕ). take c.copy_front-n.result z) (c.rest_of-rest.ensures ∙ ap (λ (z : List ℕ). drop now.given z) c.as_slice.ensures) in
-    rw (← c.self.view_is) (told now.arrived now.taken.items now.cap now.ends now.ended now.shut _ _ c.next_fails.new.self now.failing
-    (given_more now.arrived c.copy_front-n.new.into now.given c.copy_front-n.result front) c.next_fails.ensures.same)
+    rw (← c.self.view_is) (told now.arrived now.taken.items now.cap now.ends now.ended now.shut _ _ c.next_fails.new.self.numbers now.failing.numbers
+    (given_more now.arrived c.copy_front-n.new.into now.given c.copy_front-n.result front) (ap (λ (z : Failing). z.numbers) c.next_fails.ensures.counted))
 
 pub returns-clause-arrived : goal.returns-clause-arrived
 returns-clause-arrived c = λ arrival given is_arrival is_given.
