@@ -11,3 +11,6 @@ pub use search::{
     client_max, client_passes, first_client, first_route, first_socks, judge, socks_max,
 };
 pub use verdict::Verdict;
+
+#[cfg(test)]
+mod tests;
