@@ -1,3 +1,5 @@
+pub mod Files
 pub mod Mores
 pub mod Refusals
 pub mod Statuses
+pub mod Writing

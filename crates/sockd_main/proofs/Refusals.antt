@@ -1,5 +1,5 @@
 -- A script that has a fault is refused with it, unless a fault of the streams or want of memory comes first.
-use Rattle.std.proofs.Common.{◌≡◌, ◌≢◌, ◌<◌, ◌+◌, ◌⊎◌, ℕ, List, ◌++◌, Option, Some, length, codes, decimal, inl, inr, sym, ap, subst, ◌∙◌, refl, arith, append_assoc, length-append}
+use Rattle.std.proofs.Common.{◌≡◌, ◌≢◌, ◌<◌, ◌+◌, ◌⊎◌, ℕ, List, ◌∷◌, [], ◌++◌, Option, Some, length, codes, decimal, inl, inr, sym, ap, subst, ◌∙◌, refl, arith, append_assoc, length-append}
 use Rattle.std.proofs.lemmas.List.{append_cancel_left}
 use Rattle.std.specs.declared.alloc.Global.{Global}
 use Rattle.std.specs.declared.string.String.{String}
@@ -10,7 +10,8 @@ use Rattle.replay_script.specs.Script.{Faulty, longest}
 use Rattle.replay_script.proofs.Deciding.{script_faultless, one_fault}
 use Rattle.sockd_main.specs.declared.end.End.{End}
 use Rattle.sockd_main.specs.Whole.{Gave, HasEnded, IsFront}
-use Rattle.sockd_main.specs.Quick.{IsReplayWord, Streams, Errors, OnEnd, ByWords, OnQuick, IsEnough, IsFaulty, Prints, fault_text, kind_text, status_of}
+use Rattle.sockd_main.specs.Quick.{Ends, OnQuick, OnReplay, OnRun, SinkEnd, SourceEnd, IsEnough, IsFaulty, Prints, fault_text, kind_text, source, status_of}
+use Rattle.sockd_main.specs.Words.{AreCheckWords, IsReplayWord}
 
 -- ---- what the source gave
 
@@ -46,15 +47,15 @@ unlike_length : ScriptKind.Length ≢ ScriptKind.Memory
 unlike_length same = absurd (cc same)
 
 -- the fault of what was read is the fault of all
-same_fault : (old new : Option SourceTold) (from to : SourceTold) (all : List ℕ) (fault other : ScriptFault) → old ≡ Some from → new ≡ Some to → to.whole ≡ from.given ++ all
+same_fault : (old new : SourceEnd) (from to : SourceTold) (all : List ℕ) (fault other : ScriptFault) → old.told ≡ Some from → new.told ≡ Some to → to.whole ≡ from.given ++ all
     → Faulty all fault.line fault.kind → fault.kind ≢ ScriptKind.Memory → (h : IsFaulty old new other) → IsEnough new h.bytes → fault_text (End.Script other) ≡ fault_text (End.Script fault)
 same_fault old new from to all fault other is_from is_to whole faulty known h (inl ended) =
-    let same : h.bytes ≡ all = all_given old new from to h.bytes all is_from is_to whole h.gave ended in
+    let same : h.bytes ≡ all = all_given old.told new.told from to h.bytes all is_from is_to whole h.gave ended in
     let there : Faulty all other.line other.kind = subst (λ (z : List ℕ). Faulty z other.line other.kind) same h.faulty in
     let one = one_fault all other.line fault.line other.kind fault.kind there faulty h.known known in
     same_text other fault one.0 one.1
 same_fault old new from to all fault other is_from is_to whole faulty known h (inr past) =
-    let over : longest < length all = longer old new from to h.bytes all is_from is_to whole h.gave past.0 past.1 in
+    let over : longest < length all = longer old.told new.told from to h.bytes all is_from is_to whole h.gave past.0 past.1 in
     let read : Faulty h.bytes 0 ScriptKind.Length = (past.1, refl) in
     let there : Faulty all 0 ScriptKind.Length = (over, refl) in
     let one = one_fault h.bytes other.line 0 other.kind ScriptKind.Length h.faulty read h.known unlike_length in
@@ -63,27 +64,43 @@ same_fault old new from to all fault other is_from is_to whole faulty known h (i
 
 -- ---- how such a run ends
 
-refuses : (words : List (String Global)) (old new : Streams) (before now : Errors) (from to : SourceTold) (all : List ℕ) (fault : ScriptFault) (end : End)
-    → IsReplayWord words → old.input ≡ Some from → new.input ≡ Some to → to.whole ≡ from.given ++ all → Faulty all fault.line fault.kind → fault.kind ≢ ScriptKind.Memory
-    → ByWords words end → OnEnd old new end → Prints before now (fault_text end)
-    → ((status_of end ≡ 1) × Prints before now (fault_text (End.Script fault))) ⊎ ((status_of end ≡ 3) ⊎ (status_of end ≡ 4))
-refuses words old new before now from to all fault End.Done is_replay is_from is_to whole faulty known by h p =
-    let same : h.shown.is_read.bytes ≡ all = all_given old.input new.input from to h.shown.is_read.bytes all is_from is_to whole h.shown.is_read.gave h.shown.is_read.ended in
-    let there : Faulty h.shown.is_read.bytes fault.line fault.kind = subst (λ (z : List ℕ). Faulty z fault.line fault.kind) (sym same) faulty in
-    absurd (known (script_faultless h.shown.is_read.bytes h.shown.script fault.line fault.kind h.shown.is_read.spelled there))
-refuses words old new before now from to all fault (End.Script other) is_replay is_from is_to whole faulty known by h p =
-    inl (refl, subst (λ (z : List ℕ). Prints before now z) (same_fault old.input new.input from to all fault other is_from is_to whole faulty known h.0 h.0.enough) p)
-refuses words old new before now from to all fault End.Usage is_replay is_from is_to whole faulty known by h p = absurd (by is_replay)
-refuses words old new before now from to all fault End.InputFault is_replay is_from is_to whole faulty known by h p = inr (inl refl)
-refuses words old new before now from to all fault End.OutputFault is_replay is_from is_to whole faulty known by h p = inr (inl refl)
-refuses words old new before now from to all fault End.Memory is_replay is_from is_to whole faulty known by h p = inr (inr refl)
+-- `check` and a file aren't `replay` alone
+two_words : (words : List (String Global)) (name : List ℕ) → IsReplayWord words → AreCheckWords words name → ⊥
+two_words words name replay check = let e : codes "replay" ∷ [] ≡ codes "check" ∷ name ∷ [] = sym replay ∙ check.are in absurd (cc)
 
--- The status is 1 and the fault is printed, where all that the input has to give has this fault, unless a count of faults
--- rose or memory was refused.
-pub refused_exactly : (words : List (String Global)) (old new : Streams) (before now : Errors) (status : ℕ) (from to : SourceTold) (all : List ℕ) (fault : ScriptFault)
-    → OnQuick words old new before now status → IsReplayWord words → old.input ≡ Some from → new.input ≡ Some to → to.whole ≡ from.given ++ all
+refuses : (old new : Ends) (before now : SinkEnd) (from to : SourceTold) (all : List ℕ) (fault : ScriptFault) (end : End)
+    → old.input.told ≡ Some from → new.input.told ≡ Some to → to.whole ≡ from.given ++ all → Faulty all fault.line fault.kind → fault.kind ≢ ScriptKind.Memory
+    → OnReplay old new end → Prints before now (fault_text end)
+    → ((status_of end ≡ 1) × Prints before now (fault_text (End.Script fault))) ⊎ ((status_of end ≡ 3) ⊎ (status_of end ≡ 4))
+refuses old new before now from to all fault End.Done is_from is_to whole faulty known h p =
+    let read = h.1.is_read in
+    let same : read.bytes ≡ all = all_given old.input.told new.input.told from to read.bytes all is_from is_to whole read.gave read.ended in
+    let there : Faulty read.bytes fault.line fault.kind = subst (λ (z : List ℕ). Faulty z fault.line fault.kind) (sym same) faulty in
+    absurd (known (script_faultless read.bytes h.1.script fault.line fault.kind read.spelled there))
+refuses old new before now from to all fault (End.Conf other) is_from is_to whole faulty known h p = absurd h
+refuses old new before now from to all fault (End.Script other) is_from is_to whole faulty known h p =
+    inl (refl, subst (λ (z : List ℕ). Prints before now z) (same_fault old.input new.input from to all fault other is_from is_to whole faulty known h.0 h.0.enough) p)
+refuses old new before now from to all fault End.Usage is_from is_to whole faulty known h p = absurd h
+refuses old new before now from to all fault End.InputFault is_from is_to whole faulty known h p = inr (inl refl)
+refuses old new before now from to all fault End.OutputFault is_from is_to whole faulty known h p = inr (inl refl)
+refuses old new before now from to all fault End.StoreFault is_from is_to whole faulty known h p = absurd h
+refuses old new before now from to all fault End.Memory is_from is_to whole faulty known h p = inr (inr refl)
+
+refuses_run : (words : List (String Global)) (old new : Ends) (before now : SinkEnd) (from to : SourceTold) (all : List ℕ) (fault : ScriptFault) (end : End)
+    → IsReplayWord words → old.input.told ≡ Some from → new.input.told ≡ Some to → to.whole ≡ from.given ++ all → Faulty all fault.line fault.kind → fault.kind ≢ ScriptKind.Memory
+    → OnRun words old new end → Prints before now (fault_text end)
+    → ((status_of end ≡ 1) × Prints before now (fault_text (End.Script fault))) ⊎ ((status_of end ≡ 3) ⊎ (status_of end ≡ 4))
+refuses_run words old new before now from to all fault end is_replay is_from is_to whole faulty known (inl r) p =
+    refuses old new before now from to all fault end is_from is_to whole faulty known r.ended p
+refuses_run words old new before now from to all fault end is_replay is_from is_to whole faulty known (inr (inl c)) p = absurd (two_words words c.name is_replay c.asked)
+refuses_run words old new before now from to all fault end is_replay is_from is_to whole faulty known (inr (inr n)) p = absurd (n.asked.no_replay is_replay)
+
+-- The status of a replay is 1 and the fault is printed, where all that the input has to give has this fault, unless a count of
+-- faults rose or memory was refused.
+pub refused_exactly : (words : List (String Global)) (old new : Ends) (before now : SinkEnd) (status : ℕ) (from to : SourceTold) (all : List ℕ) (fault : ScriptFault)
+    → OnQuick words old new before now status → IsReplayWord words → old.input.told ≡ Some from → new.input.told ≡ Some to → to.whole ≡ from.given ++ all
     → Faulty all fault.line fault.kind → fault.kind ≢ ScriptKind.Memory
     → ((status ≡ 1) × Prints before now (fault_text (End.Script fault))) ⊎ ((status ≡ 3) ⊎ (status ≡ 4))
 refused_exactly words old new before now status from to all fault q is_replay is_from is_to whole faulty known =
     subst (λ (z : ℕ). ((z ≡ 1) × Prints before now (fault_text (End.Script fault))) ⊎ ((z ≡ 3) ⊎ (z ≡ 4))) (sym q.status_is)
-    (refuses words old new before now from to all fault q.end is_replay is_from is_to whole faulty known q.ran.by_words q.ran.ended q.printed)
+    (refuses_run words old new before now from to all fault q.end is_replay is_from is_to whole faulty known q.ran q.printed)

@@ -1,3 +1,5 @@
+pub mod ConfFile
 pub mod Quick
-pub mod Whole
 pub mod Standard
+pub mod Whole
+pub mod Words

@@ -1,10 +1,14 @@
 -- What one run of the program does, by how it ends.
-use Rattle.std.specs.Prelude.{◌≡◌, ◌≢◌, ◌<◌, ◌⊎◌, ℕ, Bool, Option, List, [], ◌∷◌, ◌++◌, length, map, codes, decimal}
+use Rattle.std.specs.Prelude.{◌≡◌, ◌≢◌, ◌<◌, ◌⊎◌, ℕ, Bool, Option, List, [], ◌∷◌, ◌++◌, length, codes, decimal}
 use mathlib.Core.List.{IsPrefix}
 use Rattle.std.specs.declared.alloc.Global.{Global}
 use Rattle.std.specs.declared.string.String.{String}
-use Rattle.std.specs.String.{string_bytes}
+use Rattle.conf_text.specs.declared.fault.TextFault.{TextFault}
+use Rattle.conf_model.specs.declared.config.Config.{Config}
+use Rattle.conf_model.specs.declared.fault.ConfKind.{ConfKind}
+use Rattle.conf_model.specs.Canonical.{canonical_text}
 use Rattle.net_ends.specs.Counts.{Rose}
+use Rattle.net_ends.specs.Stores.{Files}
 use Rattle.net_ends.specs.Streams.{SourceTold}
 use Rattle.net_ends.specs.Told.{more}
 use Rattle.replay_script.specs.declared.fault.ScriptFault.{ScriptFault}
@@ -14,83 +18,128 @@ use Rattle.socks_machine.specs.declared.script.ScriptLine.{ScriptLine}
 use Rattle.socks_machine.specs.declared.world.World.{World}
 use Rattle.socks_machine.specs.Follows.{IsReplay}
 use Rattle.sockd_main.specs.declared.end.End.{End}
+use Rattle.sockd_main.specs.ConfFile.{IsConfigFile, IsFaultyFile}
 use Rattle.sockd_main.specs.Whole.{Gave, HasEnded, IsFront, Wrote}
+use Rattle.sockd_main.specs.Words.{AreCheckWords, IsNoCommand, IsReplayWord}
 
--- ---- the words
+-- ---- the ends of a run: what each tells, and how often it failed
 
--- the words are `replay` alone
-abbrev pub IsReplayWord : List (String Global) → Type 0
-IsReplayWord words = map string_bytes words ≡ codes "replay" ∷ []
+pub record SourceEnd : Type 0 where
+  pub told : Option SourceTold
+  pub faults : ℕ
 
--- ---- what is read and written
+pub record SinkEnd : Type 0 where
+  pub told : Option (List ℕ)
+  pub faults : ℕ
 
--- what standard input and output tell, and how often each failed
-pub record Streams : Type 0 where
-  pub input : Option SourceTold
-  pub input_faults : ℕ
-  pub out : Option (List ℕ)
-  pub out_faults : ℕ
+pub record StoreEnd : Type 0 where
+  pub files : Option Files
+  pub faults : ℕ
 
-abbrev pub streams : Option SourceTold → ℕ → Option (List ℕ) → ℕ → Streams
-streams input input_faults out out_faults = record { input = input; input_faults = input_faults; out = out; out_faults = out_faults }
+abbrev pub source : Option SourceTold → ℕ → SourceEnd
+source told faults = record { told = told; faults = faults }
+
+abbrev pub sink : Option (List ℕ) → ℕ → SinkEnd
+sink told faults = record { told = told; faults = faults }
+
+abbrev pub store : Option Files → ℕ → StoreEnd
+store files faults = record { files = files; faults = faults }
+
+-- standard input, standard output and the files
+pub record Ends : Type 0 where
+  pub input : SourceEnd
+  pub out : SinkEnd
+  pub files : StoreEnd
+
+abbrev pub ends : SourceEnd → SinkEnd → StoreEnd → Ends
+ends input out files = record { input = input; out = out; files = files }
+
+-- ---- what is written
+
+-- the text was written, whole
+abbrev pub IsWritten : List ℕ → SinkEnd → SinkEnd → Type 0
+IsWritten text old new = new.told ≡ more old.told text
+
+-- a part from the front of the text was written, and the count of the output's faults rose
+pub record IsCutOff (text : List ℕ) (old new : SinkEnd) : Type 0 where
+  pub part : List ℕ
+  pub front : IsPrefix part text
+  pub out : new.told ≡ more old.told part
+  pub fault : Rose old.faults new.faults
+
+abbrev pub IsUnwritten : SinkEnd → SinkEnd → Type 0
+IsUnwritten old new = new.told ≡ old.told
+
+-- ---- `replay`
 
 -- the input was read to its end, and is this script
-pub record IsRead (old new : Option SourceTold) (script : List ScriptLine) : Type 0 where
+pub record IsRead (old new : SourceEnd) (script : List ScriptLine) : Type 0 where
   pub bytes : List ℕ
-  pub gave : Gave old new bytes
-  pub ended : HasEnded new
+  pub gave : Gave old.told new.told bytes
+  pub ended : HasEnded new.told
   pub spelled : IsScript bytes script
 
 -- nothing more of the input is wanted: it was read to its end, or past the length of a script
-abbrev pub IsEnough : Option SourceTold → List ℕ → Type 0
-IsEnough told bytes = HasEnded told ⊎ (IsFront told × (longest < length bytes))
+abbrev pub IsEnough : SourceEnd → List ℕ → Type 0
+IsEnough end bytes = HasEnded end.told ⊎ (IsFront end.told × (longest < length bytes))
 
 -- so much of the input has this fault
-pub record IsFaulty (old new : Option SourceTold) (fault : ScriptFault) : Type 0 where
+pub record IsFaulty (old new : SourceEnd) (fault : ScriptFault) : Type 0 where
   pub bytes : List ℕ
-  pub gave : Gave old new bytes
+  pub gave : Gave old.told new.told bytes
   pub enough : IsEnough new bytes
   pub faulty : Faulty bytes fault.line fault.kind
   pub known : fault.kind ≢ ScriptKind.Memory
 
 -- the input was read to its end and is a script, and this is its transcript
-pub record HasTranscript (old new : Option SourceTold) (transcript : List ℕ) : Type 0 where
+pub record HasTranscript (old new : SourceEnd) (transcript : List ℕ) : Type 0 where
   pub script : List ScriptLine
   pub is_read : IsRead old new script
   pub world : World
   pub replayed : IsReplay script world transcript
 
--- the transcript was written, whole
-pub record IsDone (old new : Streams) : Type 0 where
-  pub transcript : List ℕ
-  pub shown : HasTranscript old.input new.input transcript
-  pub out : new.out ≡ more old.out transcript
+abbrev pub OnReplay : Ends → Ends → End → Type 0
+OnReplay old new End.Done = (transcript : List ℕ) × HasTranscript old.input new.input transcript × IsWritten transcript old.out new.out
+OnReplay old new (End.Script fault) = IsFaulty old.input new.input fault × IsUnwritten old.out new.out
+OnReplay old new End.InputFault = Rose old.input.faults new.input.faults × IsUnwritten old.out new.out
+OnReplay old new End.OutputFault = (transcript : List ℕ) × HasTranscript old.input new.input transcript × IsCutOff transcript old.out new.out
+OnReplay old new End.Memory = IsUnwritten old.out new.out
+OnReplay old new _ = ⊥
 
--- a part from the front of the transcript was written, and the count of the output's faults rose
-pub record IsCutOff (old new : Streams) : Type 0 where
-  pub transcript : List ℕ
-  pub shown : HasTranscript old.input new.input transcript
-  pub part : List ℕ
-  pub front : IsPrefix part transcript
-  pub out : new.out ≡ more old.out part
-  pub fault : Rose old.out_faults new.out_faults
+-- ---- `check FILE`
 
-abbrev pub OnEnd : Streams → Streams → End → Type 0
-OnEnd old new End.Done = IsDone old new
-OnEnd old new (End.Script fault) = IsFaulty old.input new.input fault × (new.out ≡ old.out)
-OnEnd old new End.Usage = new ≡ old
-OnEnd old new End.InputFault = Rose old.input_faults new.input_faults × (new.out ≡ old.out)
-OnEnd old new End.OutputFault = IsCutOff old new
-OnEnd old new End.Memory = new.out ≡ old.out
+abbrev pub OnCheck : List ℕ → Ends → Ends → End → Type 0
+OnCheck name old new End.Done = (config : Config) × IsConfigFile old.files.files name config × IsWritten (canonical_text config) old.out new.out
+OnCheck name old new (End.Conf fault) = IsFaultyFile old.files.files name fault × IsUnwritten old.out new.out
+OnCheck name old new End.OutputFault = (config : Config) × IsConfigFile old.files.files name config × IsCutOff (canonical_text config) old.out new.out
+OnCheck name old new End.StoreFault = Rose old.files.faults new.files.faults × IsUnwritten old.out new.out
+OnCheck name old new End.Memory = IsUnwritten old.out new.out
+OnCheck name old new _ = ⊥
 
--- the words decide whether there is a run at all
-abbrev pub ByWords : List (String Global) → End → Type 0
-ByWords words End.Usage = IsReplayWord words → ⊥
-ByWords words _ = IsReplayWord words
+-- ---- the whole
 
-pub record OnRun (words : List (String Global)) (old new : Streams) (end : End) : Type 0 where
-  pub by_words : ByWords words end
-  pub ended : OnEnd old new end
+-- a replay touches no file
+pub record HasReplayed (words : List (String Global)) (old new : Ends) (end : End) : Type 0 where
+  pub asked : IsReplayWord words
+  pub ended : OnReplay old new end
+  pub same_files : new.files ≡ old.files
+
+-- a check reads no input, and changes no file
+pub record HasChecked (words : List (String Global)) (old new : Ends) (end : End) : Type 0 where
+  pub name : List ℕ
+  pub asked : AreCheckWords words name
+  pub ended : OnCheck name old new end
+  pub same_input : new.input ≡ old.input
+  pub same_files : new.files.files ≡ old.files.files
+
+pub record HasRefusedWords (words : List (String Global)) (old new : Ends) (end : End) : Type 0 where
+  pub asked : IsNoCommand words
+  pub usage : end ≡ End.Usage
+  pub same : new ≡ old
+
+-- the words decide what is run
+abbrev pub OnRun : List (String Global) → Ends → Ends → End → Type 0
+OnRun words old new end = HasReplayed words old new end ⊎ (HasChecked words old new end ⊎ HasRefusedWords words old new end)
 
 -- ---- what is reported
 
@@ -100,36 +149,53 @@ kind_text ScriptKind.Header = codes "header"
 kind_text ScriptKind.NotBuilt = codes "not built"
 kind_text ScriptKind.Memory = codes "memory"
 
+abbrev pub text_fault_text : TextFault → List ℕ
+text_fault_text (TextFault.NotAscii line) = codes "not ascii"
+text_fault_text (TextFault.NoColon line) = codes "no colon"
+text_fault_text (TextFault.UnclosedBlock line) = codes "unclosed block"
+text_fault_text (TextFault.StrayBrace line) = codes "stray brace"
+text_fault_text TextFault.TooLong = codes "too long"
+text_fault_text TextFault.Memory = codes "memory"
+
+abbrev pub conf_kind_text : ConfKind → List ℕ
+conf_kind_text ConfKind.UnknownKeyword = codes "unknown keyword"
+conf_kind_text ConfKind.BadValue = codes "bad value"
+conf_kind_text ConfKind.GssapiRefused = codes "gssapi refused"
+conf_kind_text ConfKind.PamRefused = codes "pam refused"
+conf_kind_text ConfKind.MethodRefused = codes "method refused"
+conf_kind_text ConfKind.InterfaceRefused = codes "interface refused"
+conf_kind_text ConfKind.MissingInternal = codes "missing internal"
+conf_kind_text ConfKind.ControlNotLoopback = codes "control not loopback"
+conf_kind_text ConfKind.TooMany = codes "too many"
+conf_kind_text (ConfKind.Text fault) = text_fault_text fault
+conf_kind_text ConfKind.Memory = codes "memory"
+
 abbrev pub fault_text : End → List ℕ
 fault_text End.Done = []
+fault_text (End.Conf fault) = codes "sockd: conf line " ++ (decimal fault.line ++ (codes ": " ++ (conf_kind_text fault.kind ++ codes "\n")))
 fault_text (End.Script fault) = codes "sockd: script line " ++ (decimal fault.line ++ (codes ": " ++ (kind_text fault.kind ++ codes "\n")))
 fault_text End.Usage = codes "sockd: usage\n"
 fault_text End.InputFault = codes "sockd: fault input\n"
 fault_text End.OutputFault = codes "sockd: fault output\n"
+fault_text End.StoreFault = codes "sockd: fault store\n"
 fault_text End.Memory = codes "sockd: memory\n"
 
 abbrev pub status_of : End → ℕ
 status_of End.Done = 0
+status_of (End.Conf fault) = 1
 status_of (End.Script fault) = 1
 status_of End.Usage = 2
 status_of End.InputFault = 3
 status_of End.OutputFault = 3
+status_of End.StoreFault = 3
 status_of End.Memory = 4
 
--- what standard error tells, and how often it failed
-pub record Errors : Type 0 where
-  pub told : Option (List ℕ)
-  pub faults : ℕ
-
-abbrev pub errors : Option (List ℕ) → ℕ → Errors
-errors told faults = record { told = told; faults = faults }
-
 -- standard error took the text, or a part from its front, and its count of faults rose
-abbrev pub Prints : Errors → Errors → List ℕ → Type 0
+abbrev pub Prints : SinkEnd → SinkEnd → List ℕ → Type 0
 Prints before now text = (whole : Bool) × Wrote before.told now.told before.faults now.faults text whole
 
 -- a run came to an end, the status is the one of that end, and standard error has its fault text
-pub record OnQuick (words : List (String Global)) (old new : Streams) (before now : Errors) (status : ℕ) : Type 0 where
+pub record OnQuick (words : List (String Global)) (old new : Ends) (before now : SinkEnd) (status : ℕ) : Type 0 where
   pub end : End
   pub ran : OnRun words old new end
   pub status_is : status ≡ status_of end

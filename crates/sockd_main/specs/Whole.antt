@@ -25,7 +25,7 @@ IsFront (Some told) = IsPrefix told.given told.whole
 -- what the source gave, by what was made of it
 abbrev pub OnInput : ℕ → Option SourceTold → Option SourceTold → ℕ → ℕ → Input → Type 0
 OnInput limit old new before now (Input.Whole bytes) = Gave old new bytes × HasEnded new × (length bytes ≤ limit)
-OnInput limit old new before now Input.TooLong = (bytes : List ℕ) × Gave old new bytes × IsFront new × (limit < length bytes)
+OnInput limit old new before now (Input.TooLong bytes) = Gave old new bytes × IsFront new × (limit < length bytes)
 OnInput limit old new before now Input.Failed = Rose before now
 OnInput limit old new before now Input.Memory = Unit {0}
 

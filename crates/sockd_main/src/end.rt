@@ -1,12 +1,15 @@
 ghost use Rattle.std.specs.Prelude.{◌≡◌};
 
+use conf_model::ConfFault;
 use replay_script::ScriptFault;
 
 /// How a run ended.
 #[derive(Clone, Copy, Debug, PartialEq, Eq)]
 pub enum End {
-    /// The transcript was written.
+    /// All was written.
     Done,
+    /// The configuration has this fault.
+    Conf(ConfFault),
     /// The script has this fault.
     Script(ScriptFault),
     /// The words aren't those of a command.
@@ -15,6 +18,8 @@ pub enum End {
     InputFault,
     /// Standard output failed.
     OutputFault,
+    /// A file can't be read.
+    StoreFault,
     /// Memory was refused.
     Memory,
 }
@@ -28,9 +33,9 @@ impl End {
     {
         match self {
             End::Done => 0,
-            End::Script(_) => 1,
+            End::Conf(_) | End::Script(_) => 1,
             End::Usage => 2,
-            End::InputFault | End::OutputFault => 3,
+            End::InputFault | End::OutputFault | End::StoreFault => 3,
             End::Memory => 4,
         }
     }

@@ -4,16 +4,20 @@
 ghost use Rattle.std.specs.Prelude.{◌≡◌, ◌≢◌};
 ghost use Rattle.std.specs.IoError.{error_kind};
 
+mod conf_file;
 mod end;
+mod no_caller;
 mod report;
 mod run;
 mod standard;
 mod whole;
+mod words;
 
 use end::End;
+use no_caller::NoCaller;
 use report::report;
 use run::quick;
-use standard::{Reader, Writer};
+use standard::{Reader, SystemFiles, Writer};
 use std::io::ErrorKind;
 use std::process::ExitCode;
 use std::{env, io};
@@ -45,8 +49,18 @@ fn main(rt: HostRuntime) -> ExitCode {
     let mut input = Reader::new(rt.stdin());
     let mut out = Writer::new(rt.stdout());
     let mut err = Writer::new(rt.stderr());
+    let mut files = SystemFiles::new(&rt);
+    let mut caller = NoCaller::new();
     let status = match words_of(&rt) {
-        Ok(words) => quick(rt.alloc(), words.as_slice(), &mut input, &mut out, &mut err),
+        Ok(words) => quick(
+            rt.alloc(),
+            words.as_slice(),
+            &mut input,
+            &mut out,
+            &mut err,
+            &mut files,
+            &mut caller,
+        ),
         Err(error) => {
             let end = wordless(&error);
             report(&end, &mut err);

@@ -2,8 +2,12 @@
 //! or a terminal holds. Where a reader or a writer knows its bytes itself, each call hands them on.
 ghost use Rattle.std.specs.Prelude.{◌≡◌, ◌<◌, ◌≤◌, None, length};
 
-use net_ends::{Giving, Sink, Source, Taking};
+use crate::whole::{Input, read_all};
+use net_ends::{Giving, Sink, Source, Store, Stored, Taking};
+use std::alloc::Global;
+use std::fs;
 use std::io::{Read, Write};
+use std::rt::Files;
 
 /// A reader, such as standard input.
 #[derive(Drop)]
@@ -87,6 +91,52 @@ impl<W: Write> Sink for Writer<W> {
                 self.faults = self.faults.saturating_add(1);
                 Giving::Failed
             }
+        }
+    }
+}
+
+/// The files of the system. It tells nothing of them.
+#[derive(Drop)]
+pub struct SystemFiles<'a, R> {
+    rt: &'a R,
+    faults: u64,
+}
+
+impl<'a, R> SystemFiles<'a, R> {
+    pub fn new(rt: &'a R) -> SystemFiles<'a, R>
+        ensures { result.faults ≡ 0 }
+    {
+        SystemFiles { rt, faults: 0 }
+    }
+}
+
+impl<'a, R: Files> Store for SystemFiles<'a, R> {
+    ghost use Rattle.net_ends.specs.Stores.{MayReadFile, StoredCause};
+
+    ghost files = { λ _. None };
+
+    ghost faults = { λ store. store.faults };
+
+    fn read_file(&mut self, alloc: Global, name: &str, limit: usize) -> Stored {
+        let file = match fs::open(self.rt, name) {
+            Ok(file) => file,
+            Err(_) => {
+                self.faults = self.faults.saturating_add(1);
+                return Stored::Failed;
+            }
+        };
+        let mut reader = Reader::new(file);
+        match read_all(alloc, &mut reader, limit) {
+            Input::Whole(text) => Stored::Read(text),
+            Input::TooLong(mut text) => {
+                text.truncate(limit + 1);
+                Stored::Read(text)
+            }
+            Input::Failed => {
+                self.faults = self.faults.saturating_add(1);
+                Stored::Failed
+            }
+            Input::Memory => Stored::Memory,
         }
     }
 }

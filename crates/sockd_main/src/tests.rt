@@ -1,7 +1,8 @@
 use super::*;
-use net_ends::{MemSink, MemSource};
+use net_ends::{MemCaller, MemSink, MemSource, MemStore};
 use std::alloc::Global;
 
+mod checks;
 mod failures;
 mod refusals;
 mod rows;
@@ -102,7 +103,17 @@ fn ran(alloc: Global, words: &[&str], parts: &[&str], trouble: Trouble) -> Optio
     let mut source = source_of(alloc, parts, trouble.read)?;
     let mut out = sink_of(alloc, trouble.room, trouble.write)?;
     let mut err = sink_of(alloc, trouble.error_room, 0)?;
-    let status = quick(alloc, list.as_slice(), &mut source, &mut out, &mut err);
+    let mut files = MemStore::make(alloc, 0).ok()?;
+    let mut caller = MemCaller::make(alloc, 0).ok()?;
+    let status = quick(
+        alloc,
+        list.as_slice(),
+        &mut source,
+        &mut out,
+        &mut err,
+        &mut files,
+        &mut caller,
+    );
     Some(Outcome { status, out, err })
 }
 

@@ -11,8 +11,8 @@ use std::alloc::Global;
 pub enum Input {
     /// All that it gave, up to its end.
     Whole(Text),
-    /// It gave more than the limit.
-    TooLong,
+    /// What it gave so far, which is more than the limit.
+    TooLong(Text),
     Failed,
     Memory,
 }
@@ -34,7 +34,7 @@ pub fn read_all<I: Source>(alloc: Global, input: &mut I, limit: usize) -> Input
             },
         }
     }
-    Input::TooLong
+    Input::TooLong(bytes)
 }
 
 /// Writes all of a text, and says whether the sink took all of it.

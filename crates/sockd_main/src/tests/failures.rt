@@ -8,6 +8,10 @@ const OTHER_WORDS: &[&[&str]] = &[
     &["replays"],
     &["replay", "replay"],
     &["replay", ""],
+    &["check"],
+    &["check", "office.conf", "office.conf"],
+    &["check", "-f"],
+    &["office.conf", "check"],
 ];
 
 /// Whether these words are refused, with so much of the text on standard error as fits.

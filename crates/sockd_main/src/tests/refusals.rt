@@ -257,7 +257,17 @@ fn refuses_endless_input(alloc: Global) -> Option<bool> {
     let mut source = Reader::new(std::io::repeat(b'#'));
     let mut out = sink_of(alloc, 100, 0)?;
     let mut err = sink_of(alloc, 100, 0)?;
-    let status = quick(alloc, words.as_slice(), &mut source, &mut out, &mut err);
+    let mut files = MemStore::make(alloc, 0).ok()?;
+    let mut caller = MemCaller::make(alloc, 0).ok()?;
+    let status = quick(
+        alloc,
+        words.as_slice(),
+        &mut source,
+        &mut out,
+        &mut err,
+        &mut files,
+        &mut caller,
+    );
     let error = b"sockd: script line 0: length\n".as_slice();
     Some(status == 1 && out.taken().is_empty() && err.taken() == error)
 }

@@ -2,7 +2,7 @@ use Rattle.std.proofs.Common.{◌≡◌, ◌≢◌, ℕ, Bool, true, false, List
 use Rattle.std.specs.declared.string.String.{String}
 use Rattle.std.specs.String.{string_bytes}
 use Rattle.std.specs.Cmp.Lexicographic.{told_text}
-use Rattle.sockd_main.proofs.run.is_replay.Goals as goal
+use Rattle.sockd_main.proofs.words.is_replay.Goals as goal
 
 one_word : (words : List (String Global)) (w : String Global) → length words ≡ 1 → w ≡ get_or words 0 w → map string_bytes words ≡ string_bytes w ∷ []
 one_word [] w len is = absurd (omega (arith, len))
