@@ -1,0 +1,6 @@
+mod Rows
+pub mod Ended
+pub mod Exact
+pub mod Prefixes
+pub mod Spelled
+pub mod UserName

@@ -1,0 +1,5 @@
+use Rattle.socks4_codec.proofs.Spelled.{requests-again}
+use Rattle.socks4_codec.proofs.laws.requests_read_again.Goals as goal
+
+pub returns : goal.returns
+returns c = requests-again

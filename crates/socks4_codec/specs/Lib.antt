@@ -1,0 +1,5 @@
+pub mod Parts
+pub mod Placed
+pub mod Reads
+pub mod Writes
+pub mod Laws

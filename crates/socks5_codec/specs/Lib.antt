@@ -1,0 +1,6 @@
+pub mod Parts
+pub mod Placed
+pub mod Reads
+pub mod Steps
+pub mod Writes
+pub mod Laws
