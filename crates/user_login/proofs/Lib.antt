@@ -1,0 +1,6 @@
+pub mod Comparing
+pub mod Messages
+pub mod Lines
+pub mod Limits
+pub mod Numbers
+mod Rows

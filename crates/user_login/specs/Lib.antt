@@ -1,0 +1,4 @@
+pub mod Messages
+pub mod UsersFile
+pub mod Checking
+pub mod Laws
