@@ -1,0 +1,6 @@
+mod Sums
+mod Pieces
+mod Carrying
+mod Rounding
+mod Going
+mod Rows

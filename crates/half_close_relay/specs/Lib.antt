@@ -1,0 +1,4 @@
+pub mod Ways
+pub mod Pumping
+pub mod Halts
+pub mod Sending

@@ -1,0 +1,162 @@
+-- One direction of a relay, from the link that gives, its source, to the link that takes, its sink.
+use Rattle.std.specs.Prelude.{ℕ, zero, suc, ◌≡◌, ◌<◌, ◌≤◌, ◌+◌, ◌-◌, ◌^◌, min, Bool, true, false, ◌||◌, Some, Result, Ok, Err, List, [], ◌++◌, length}
+use mathlib.Core.List.{IsPrefix}
+use Rattle.net_ends.specs.Counts.{Counts, Later, Rose}
+use Rattle.net_ends.specs.Told.{Told, Arrival, more}
+use Rattle.half_close_relay.specs.declared.halt.Halt.{Halt}
+
+-- What waits for the sink, whether the source has ended and the sink was shut, and how many bytes were taken and sent. A
+-- total stays at its type's end.
+pub record Way : Type 0 where
+  pub waiting : List ℕ
+  pub ended : Bool
+  pub shut : Bool
+  pub took : ℕ
+  pub sent : ℕ
+
+abbrev pub fresh_way : Way
+fresh_way = record { waiting = []; ended = false; shut = false; took = 0; sent = 0 }
+
+abbrev pub total : ℕ → ℕ → ℕ
+total before zero = before
+total before (suc n) = min (before + suc n) (2 ^ 64 - 1)
+
+-- what a call did in one direction: what the source gave and the sink took, whether the source ended and the sink was shut
+pub record Move : Type 0 where
+  pub given : List ℕ
+  pub sent : List ℕ
+  pub ends : Bool
+  pub shuts : Bool
+
+-- No byte is lost, and none comes from elsewhere: what was sent and what waits now is what waited and what was given. A
+-- source that has ended is read no more. The sink is shut once, and only where the source has ended and all was sent.
+pub record Moves (was now : Way) (move : Move) : Type 0 where
+  pub kept : was.waiting ++ move.given ≡ move.sent ++ now.waiting
+  pub ended' : now.ended ≡ move.ends || was.ended
+  pub shut' : now.shut ≡ move.shuts || was.shut
+  pub took' : now.took ≡ total was.took (length move.given)
+  pub sent' : now.sent ≡ total was.sent (length move.sent)
+  pub silent : was.ended ≡ true → (move.given ≡ []) × (move.ends ≡ false)
+  pub once : move.shuts ≡ true → was.shut ≡ false
+  pub due : move.shuts ≡ true → (now.ended ≡ true) × (now.waiting ≡ [])
+
+-- ---- the links
+
+-- a link as it is seen
+pub record Seen : Type 0 where
+  pub told : Told
+  pub counts : Counts
+
+abbrev pub seen : Told → Counts → Seen
+seen told counts = record { told = told; counts = counts }
+
+abbrev pub after_giving : Told → List ℕ → Bool → Told
+after_giving told given ends = record told { given = more told.given given; ended = ends || told.ended }
+
+abbrev pub after_taking : Told → List ℕ → Bool → Told
+after_taking told sent shuts = record told { taken = more told.taken sent; shut = shuts || told.shut }
+
+-- it has given all that arrived, and no end stands behind that
+abbrev pub IsIdle : Told → Type 0
+IsIdle told = (arrival : Arrival) (given : List ℕ) → told.arrived ≡ Some arrival → told.given ≡ Some given → (given ≡ arrival.bytes) × (arrival.ends ≡ false)
+
+-- it has taken as much as it can
+abbrev pub IsFull : Told → Type 0
+IsFull told = (cap : ℕ) (taken : List ℕ) → told.cap ≡ Some cap → told.taken ≡ Some taken → cap ≤ length taken
+
+-- its end was read only behind all that arrived
+abbrev pub EndsBehind : Told → Type 0
+EndsBehind told = (arrival : Arrival) (given : List ℕ) → told.arrived ≡ Some arrival → told.given ≡ Some given → told.ended ≡ true → (given ≡ arrival.bytes) × (arrival.ends ≡ true)
+
+-- what it gave is the first of what arrived
+abbrev pub GivesFirst : Told → Type 0
+GivesFirst told = (arrival : Arrival) (given : List ℕ) → told.arrived ≡ Some arrival → told.given ≡ Some given → IsPrefix given arrival.bytes
+
+-- reads keep what a link says of what arrived
+pub record KeepsArrival (old new : Told) : Type 0 where
+  pub behind : EndsBehind old → EndsBehind new
+  pub first : GivesFirst old → GivesFirst new
+
+-- a source gave these bytes, and its end where it ended
+pub record Gives (given : List ℕ) (ends : Bool) (old new : Seen) : Type 0 where
+  pub told' : new.told ≡ after_giving old.told given ends
+  pub later : Later old.counts new.counts
+  pub arrival : KeepsArrival old.told new.told
+
+-- a sink took these bytes, and was shut
+pub record Takes (sent : List ℕ) (shuts : Bool) (old new : Seen) : Type 0 where
+  pub told' : new.told ≡ after_taking old.told sent shuts
+  pub later : Later old.counts new.counts
+
+-- ---- why no more is done
+
+-- a call of a link failed
+pub record Failed (old new : Seen) : Type 0 where
+  pub rose : Rose old.counts.faults new.counts.faults
+  pub allowed : old.told.unfailing ≡ false
+
+-- a source that hasn't ended, and may be read, answered NotYet
+pub record SourceRests (left : ℕ) (now : Way) (old new : Seen) : Type 0 where
+  pub idle : now.ended ≡ false → 0 < left → IsIdle new.told × Rose old.counts.idle_reads new.counts.idle_reads
+
+-- where bytes wait the sink answered NotYet, and where it is to be shut it was
+pub record SinkRests (now : Way) (old new : Seen) : Type 0 where
+  pub full : 0 < length now.waiting → IsFull new.told × Rose old.counts.idle_writes new.counts.idle_writes
+  pub due : now.ended ≡ true → now.waiting ≡ [] → now.shut ≡ true
+
+-- ---- a piece from the source
+
+abbrev pub TakeEnds : ℕ → Way → Seen → Seen → List ℕ → Result ℕ Halt → Type 0
+TakeEnds left now old new given (Ok n) = (length given ≡ n) × (n ≡ 0 → SourceRests left now old new)
+TakeEnds left now old new given (Err Halt.Source) = Failed old new
+TakeEnds left now old new given (Err Halt.Sink) = ⊥
+TakeEnds left now old new given (Err Halt.Memory) = 0 < left
+
+-- a piece of at most so many bytes was taken, or the end, which is read only where bytes could be
+pub record TakesPiece (left : ℕ) (was now : Way) (old new : Seen) (outcome : Result ℕ Halt) : Type 0 where
+  pub given : List ℕ
+  pub ends : Bool
+  pub now' : now ≡ record was { waiting = was.waiting ++ given; ended = ends || was.ended; took = total was.took (length given) }
+  pub silent : was.ended ≡ true → (given ≡ []) × (ends ≡ false)
+  pub within : length given ≤ left
+  pub early : ends ≡ true → length given < left
+  pub gives : Gives given ends old new
+  pub why : TakeEnds left now old new given outcome
+  pub open_still : (halt : Halt) → outcome ≡ Err halt → now.shut ≡ false
+
+-- ---- what waits, to the sink
+
+abbrev pub GiveEnds : {A : Type 0} → Way → Seen → Seen → Result A Halt → Type 0
+GiveEnds now old new (Ok done) = SinkRests now old new
+GiveEnds now old new (Err Halt.Source) = ⊥
+GiveEnds now old new (Err Halt.Sink) = Failed old new × (now.shut ≡ false)
+GiveEnds now old new (Err Halt.Memory) = ⊥
+
+-- the first of what waits was sent, and the sink was shut where that was due
+pub record SendsOn {A : Type 0} (was now : Way) (old new : Seen) (outcome : Result A Halt) : Type 0 where
+  pub sent : List ℕ
+  pub shuts : Bool
+  pub waiting' : was.waiting ≡ sent ++ now.waiting
+  pub now' : now ≡ record was { waiting = now.waiting; shut = shuts || was.shut; sent = total was.sent (length sent) }
+  pub once : shuts ≡ true → was.shut ≡ false
+  pub due : shuts ≡ true → (was.ended ≡ true) × (now.waiting ≡ [])
+  pub takes : Takes sent shuts old new
+  pub why : GiveEnds now old new outcome
+
+-- ---- both
+
+abbrev pub CarryEnds : ℕ → Way → Seen → Seen → Seen → Seen → List ℕ → Result ℕ Halt → Type 0
+CarryEnds left now source source' sink sink' given (Ok n) = (length given ≡ n) × (n ≡ 0 → SourceRests left now source source') × SinkRests now sink sink'
+CarryEnds left now source source' sink sink' given (Err Halt.Source) = Failed source source' × (now.shut ≡ false)
+CarryEnds left now source source' sink sink' given (Err Halt.Sink) = Failed sink sink' × (now.shut ≡ false)
+CarryEnds left now source source' sink sink' given (Err Halt.Memory) = (0 < left) × (now.shut ≡ false)
+
+-- one direction was carried: a piece of at most so many bytes from its source, and what waits to its sink
+pub record Carries (left : ℕ) (was now : Way) (source source' sink sink' : Seen) (outcome : Result ℕ Halt) : Type 0 where
+  pub move : Move
+  pub moves : Moves was now move
+  pub within : length move.given ≤ left
+  pub early : move.ends ≡ true → length move.given < left
+  pub gives : Gives move.given move.ends source source'
+  pub takes : Takes move.sent move.shuts sink sink'
+  pub why : CarryEnds left now source source' sink sink' move.given outcome
