@@ -1,0 +1,14 @@
+//! The words of the command line.
+#![tactic(auto)]
+
+mod asked;
+mod cut;
+mod destination;
+mod read;
+mod table;
+
+pub use asked::Asked;
+pub use read::read_words;
+
+#[cfg(test)]
+mod tests;
