@@ -21,6 +21,7 @@ use Rattle.socks_machine.specs.Calls.{Context, TurnResult, refusal_said, blocked
 use Rattle.socks_machine.specs.Decisions.{reached_at}
 use Rattle.socks_machine.specs.History.{Desked, at_open}
 use Rattle.socks_machine.specs.Settle.{first_cause}
+use Rattle.socks_machine.specs.Socks.{socks}
 use Rattle.socks_machine.specs.Step.{fresh}
 use Rattle.socks_machine.specs.Turn.{turn, after_call}
 use Rattle.assoc_core.specs.declared.assoc.Assoc.{Assoc}
@@ -123,7 +124,7 @@ fresh-turns : {L : Type 0} (told : L → Told) (counts : L → Counts) (stands :
     (number : ℕ) (peer local : Endpoint) (logged : Bool) (refused : Option Cause)
     → refused_of h marks cap (client_line generation config (fresh number peer local now)) logged ≡ refused
     → stands (said_of h marks cap (client_line generation config (fresh number peer local now)) logged).h (said_of h marks cap (client_line generation config (fresh number peer local now)) logged).marks
-    → Stands told (with_state a (fresh number peer local now))
+    → Stands told (socks users pubs) (with_state a (fresh number peer local now))
     → Turned told counts stands (context users pubs generation config cap h marks) now net generation (client_line generation config (fresh number peer local now)).rule refused a (fresh number peer local now)
 fresh-turns told counts stands users pubs generation config cap h marks now net a number peer local logged None e desk k =
     let r : Record = fresh number peer local now in
@@ -146,6 +147,7 @@ fresh-turns told counts stands users pubs generation config cap h marks now net 
         sent_c = (owed_c x, refl);
         sent_t = (owed_t x, refl);
       };
+      direct = record { direct = refl; known = tt };
       c = refl;
       t = refl;
       ends_c = λ h1. h1;
@@ -187,6 +189,7 @@ fresh-turns told counts stands users pubs generation config cap h marks now net 
       state' = refl;
       desk = desk;
       goes_on = (refl, refl, refl);
+      direct = record { direct = refl; known = tt };
       c = refl;
       t = refl;
       ends_c = λ h1. h1;
@@ -228,12 +231,12 @@ pub accepts : {L : Type 0} (told : L → Told) (counts : L → Counts) (stands :
     (logged : Bool) (refused : Option Cause)
     → refused_of h marks cap (client_line generation config a.state) logged ≡ refused
     → stands (said_of h marks cap (client_line generation config a.state) logged).h (said_of h marks cap (client_line generation config a.state) logged).marks
-    → Stands told a → (a.state).since ≡ now → (a.state).decisions ≡ []
+    → Stands told (socks users pubs) a → (a.state).since ≡ now → (a.state).decisions ≡ []
     → Turns told counts stands (context users pubs generation config cap h marks) now net net a (accepted a generation (client_line generation config a.state).rule refused)
 accepts told counts stands users pubs generation config cap h marks now net a logged refused e desk k since none =
     subst (Turned told counts stands (context users pubs generation config cap h marks) now net generation (client_line generation config a.state).rule refused a) (sym is)
     (fresh-turns told counts stands users pubs generation config cap h marks now net a (a.state).number (a.state).peer (a.state).local logged refused e desk
-    (subst (λ (r : Record). Stands told (with_state a r)) is k))
+    (subst (λ (r : Record). Stands told (socks users pubs) (with_state a r)) is k))
   where
     is : a.state ≡ fresh (a.state).number (a.state).peer (a.state).local now
     is = unbegun a.state (a.state).decisions none (k.plain).decided ∙ ap (fresh (a.state).number (a.state).peer (a.state).local) since
@@ -258,7 +261,7 @@ pub lets-in : {L : Type 0} (told : L → Told) (counts : L → Counts) (stands :
     (users : List User) (pubs : List Config) (generation : ℕ) (config : Config) (cap : ℕ) (h : List Line) (marks : List StopBy) (now : ℕ) (net : NetTold) (a : Assoc L)
     (line : OpenLine) (said : Said) (refused : Option Cause) (pushed after : List Decision) (cause : Option Cause)
     → Asked stands generation config cap h marks a.state line said refused pushed after cause → refused ≡ None
-    → Stands told a → (a.state).since ≡ now → (a.state).decisions ≡ []
+    → Stands told (socks users pubs) a → (a.state).since ≡ now → (a.state).decisions ≡ []
     → Turns told counts stands (context users pubs generation config cap h marks) now net net a
     (Next.Again (with_state a (let r = a.state in record r { decisions = after; cause = cause })))
 lets-in told counts stands users pubs generation config cap h marks now net a line said refused pushed after cause k none standing since undecided =
@@ -284,7 +287,7 @@ pub refuses-in : {L : Type 0} (told : L → Told) (counts : L → Counts) (stand
     (line : OpenLine) (said : Said) (refused : Option Cause) (pushed after : List Decision) (cause : Option Cause) (why : Cause) (ended : Ended L)
     → Asked stands generation config cap h marks a.state line said refused pushed after cause → refused ≡ Some why
     → ended ≡ ended_with a (let r = a.state in record r { decisions = after; cause = cause; done = true })
-    → Stands told a → (a.state).since ≡ now → (a.state).decisions ≡ []
+    → Stands told (socks users pubs) a → (a.state).since ≡ now → (a.state).decisions ≡ []
     → Turns told counts stands (context users pubs generation config cap h marks) now net net a (Next.Done ended)
 refuses-in told counts stands users pubs generation config cap h marks now net a line said refused pushed after cause why ended k some is standing since undecided =
     subst (λ (z : Next _). Turns told counts stands (context users pubs generation config cap h marks) now net net a z)

@@ -1,5 +1,5 @@
 -- The turns in which a client is answered, and has nothing more to say yet.
-use Rattle.std.proofs.Common.{◌≡◌, ℕ, ◌<◌, ◌-◌, Bool, true, false, ◌&&◌, ◌||◌, not, ◌==◌, nat_le, Some, None, List, [], ◌∷◌, ◌++◌, length, drop, refl, sym, ap, subst, ◌∙◌, inr, append_assoc, arith}
+use Rattle.std.proofs.Common.{◌≡◌, ℕ, zero, suc, ◌<◌, ◌-◌, Bool, true, false, ◌&&◌, ◌||◌, not, ◌==◌, nat_le, Some, None, List, [], ◌∷◌, ◌++◌, length, drop, refl, sym, ap, subst, ◌∙◌, inr, append_assoc, arith}
 use Rattle.std.proofs.lemmas.Bool.{lt-leb}
 use Rattle.std.proofs.Math.Seq.{drop-append_seam}
 use mathlib.Core.List.{IsPrefix}
@@ -20,7 +20,7 @@ use Rattle.socks_machine.specs.InTurn.{Reading, Takes}
 use Rattle.socks_machine.specs.Owed.{owed_to_client, pending_to_client}
 use Rattle.socks_machine.specs.Phase.{Phase, phase, is_udp}
 use Rattle.socks_machine.specs.Settle.{is_nothing}
-use Rattle.socks_machine.specs.Socks.{chosen_reply}
+use Rattle.socks_machine.specs.Socks.{socks, chosen_reply}
 use Rattle.socks_machine.specs.Taking.{reads_target, holds}
 use Rattle.socks_machine.specs.Turn.{turn, quantum, marked, took_quantum, rests, rests_in, reads_in, has_pending, may_be_shut, may_write}
 use Rattle.socks_machine.proofs.ActLaws.{still-open}
@@ -71,8 +71,9 @@ told-sent old mid new x y ends h k = k ∙ ap (λ (z : Told). let u : Told = rec
 
 -- ---- nothing is late
 
-undue : (m n : ℕ) → 0 < m → not (m == 0) && nat_le m (n - n) ≡ false
-undue m n h = ap (λ b. not (m == 0) && b) (lt-leb m (n - n) (omega arith)) ∙ and-false (not (m == 0))
+undue : (m n : ℕ) → not (m == 0) && nat_le m (n - n) ≡ false
+undue zero n = refl
+undue (suc m) n = ap (λ b. not (suc m == 0) && b) (lt-leb (suc m) (n - n) (omega arith)) ∙ and-false (not (suc m == 0))
 
 or-true : (b : Bool) → b || true ≡ true
 or-true true = refl
@@ -109,7 +110,7 @@ waits-on : (t : Hearing) (y rest sent : List ℕ) (full : Bool) (worker : ℕ) �
     ≡ Some (marked NextMark.Wait (keep (context_of t) (caused t sent false None)))
 waits-on t y rest sent full worker undecided e1 e2 none =
     waits (context_of t) (before t) (answering t y full worker) (heard t) (caused t sent false None) (reads-on t y rest sent full worker undecided e1 e2) refl took resting
-    (undue (t.config).negotiate (t.party).since t.negotiate')
+    (undue (t.config).negotiate (t.party).since)
   where
     took : took_quantum (answering t y full worker) ≡ false
     took = ap (λ b. b || false || false) (lt-leb quantum (length t.x) (short-heard t undecided))
@@ -125,7 +126,7 @@ abbrev pub with_link : {L : Type 0} → Assoc L → Record → L → Assoc L
 with_link b r client = record { state = r; client = client; target = b.target }
 
 pub waits-for : {L : Type 0} (told : L → Told) (counts : L → Counts) (stands : List Line → List StopBy → Type 0) (users : List User) (pubs : List Config) (generation : ℕ) (config : Config) (most : ℕ) (h : List Line) (marks : List StopBy)
-    (now : ℕ) (net : NetTold) (a b : Assoc L) (client : L) (s : Record) (full : Bool) (outcome : Sent) → HasHeard told counts generation config a b Heard.NotYet → (a.state).since ≡ now → stands h marks
+    (now : ℕ) (net : NetTold) (a b : Assoc L) (client : L) (s : Record) (full : Bool) (outcome : Sent) → HasHeard told counts (socks users pubs) generation config a b Heard.NotYet → (a.state).since ≡ now → stands h marks
     → s ≡ (let r = b.state in record r { sent_c = s.sent_c })
     → Sends (told b.client) (told client) (counts b.client) (counts client) (b.state).sent_c s.sent_c (drop (length (b.state).sent_c) (owed_c b.state)) outcome
     → ((rest : List ℕ) → SendEnds (told client) (counts b.client) (counts client) rest outcome → (full ≡ false → rest ≡ []) × (full ≡ true → (0 < length rest) × IsFull (told client) × Rose (counts b.client).idle_writes (counts client).idle_writes))
@@ -139,6 +140,7 @@ waits-for told counts stands users pubs generation config most h marks now net a
       state' = is;
       desk' = desk;
       goes_on = subst IsPlainRecord (sym is) (plain-caused t s.sent_c false None (λ e. (refl, heard-unwhole t undecided)) (sends'.rest, owed-plain));
+      direct' = record { direct = refl; known = tt };
       c' = refl;
       sent' = sends'.after';
       end_c' = refl;
@@ -192,7 +194,7 @@ waits-for told counts stands users pubs generation config most h marks now net a
 -- ---- the write has failed
 
 pub writes-fail : {L : Type 0} (told : L → Told) (counts : L → Counts) (stands : List Line → List StopBy → Type 0) (users : List User) (pubs : List Config) (generation : ℕ) (config : Config) (most : ℕ) (h : List Line) (marks : List StopBy)
-    (now : ℕ) (net : NetTold) (a b : Assoc L) (client : L) (s : Record) (e : Ended L) → HasHeard told counts generation config a b Heard.NotYet → (a.state).since ≡ now
+    (now : ℕ) (net : NetTold) (a b : Assoc L) (client : L) (s : Record) (e : Ended L) → HasHeard told counts (socks users pubs) generation config a b Heard.NotYet → (a.state).since ≡ now
     → s ≡ (let r = b.state in record r { sent_c = s.sent_c })
     → Sends (told b.client) (told client) (counts b.client) (counts client) (b.state).sent_c s.sent_c (drop (length (b.state).sent_c) (owed_c b.state)) Sent.Failed
     → (is_udp s ≡ false → Closed stands h marks Cause.ClientFault (with_link b s client) e)

@@ -45,14 +45,15 @@ pub record AtReach (ds : List Decision) : Type 0 where
   pub rule : Option ℕ
   pub facts : Facts
   pub verdict : Verdict
-  pub is : ds ≡ Decision.Opened g rule None ∷ Decision.Granted g' facts verdict None None ∷ []
+  pub route : Option ℕ
+  pub is : ds ≡ Decision.Opened g rule None ∷ Decision.Granted g' facts verdict route None ∷ []
 
 pub at-reach : (r : Record) (ds : List Decision) → HasDecided r ds → r.cause ≡ None → IsCourse ds Course.Reach → AtReach ds
 at-reach r [] h k c = absurd c
 at-reach r (d ∷ []) h k c = absurd c
-at-reach r (Decision.Opened g rule None ∷ Decision.Granted g' facts verdict None None ∷ []) h k c =
-    record { g = g; g' = g'; rule = rule; facts = facts; verdict = verdict; is = refl }
-at-reach r (Decision.Opened g rule None ∷ Decision.Granted g' facts verdict None (Some j) ∷ []) h k c = caused r.cause k (h.stands refl)
+at-reach r (Decision.Opened g rule None ∷ Decision.Granted g' facts verdict route None ∷ []) h k c =
+    record { g = g; g' = g'; rule = rule; facts = facts; verdict = verdict; route = route; is = refl }
+at-reach r (Decision.Opened g rule None ∷ Decision.Granted g' facts verdict route (Some j) ∷ []) h k c = caused r.cause k (h.stands refl)
 at-reach r (d ∷ e ∷ []) h k c = absurd h
 at-reach r (d ∷ e ∷ f ∷ ds) h k c = absurd c
 
@@ -60,8 +61,8 @@ pub at-relay : (r : Record) (ds : List Decision) → HasDecided r ds → r.cause
 at-relay r [] h k c = absurd c
 at-relay r (d ∷ []) h k c = absurd c
 at-relay r (d ∷ e ∷ []) h k c = absurd c
-at-relay r (Decision.Opened g rule None ∷ Decision.Granted g' facts verdict None None ∷ Decision.Reached to None ∷ []) h k c = caused r.cause k (h.failed refl)
-at-relay r (Decision.Opened g rule None ∷ Decision.Granted g' facts verdict None None ∷ Decision.Reached to (Some at) ∷ []) h k c = (at, refl)
+at-relay r (Decision.Opened g rule None ∷ Decision.Granted g' facts verdict route None ∷ Decision.Reached to None ∷ []) h k c = caused r.cause k (h.failed refl)
+at-relay r (Decision.Opened g rule None ∷ Decision.Granted g' facts verdict route None ∷ Decision.Reached to (Some at) ∷ []) h k c = (at, refl)
 at-relay r (d ∷ e ∷ f ∷ ds) h k c = absurd h
 
 -- ---- how the phases' answers are those of a turn
@@ -85,6 +86,7 @@ over-desk told counts stands h marks s now net net' a next stood t = record {
   state' = t.state';
   desk = desk;
   goes_on = t.goes_on;
+  direct = t.direct;
   c = t.c;
   t = t.t;
   sent_c = t.sent_c;

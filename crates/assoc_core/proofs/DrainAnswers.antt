@@ -5,7 +5,6 @@ use Rattle.addr_pattern.specs.declared.endpoint.Endpoint.{Endpoint}
 use Rattle.conf_model.specs.declared.config.Config.{Config}
 use Rattle.conf_model.specs.declared.protocol.Command.{Command}
 use Rattle.conf_model.specs.declared.user.User.{User}
-use Rattle.conf_model.specs.Plain.{IsPlain}
 use Rattle.net_ends.specs.Counts.{Counts, Rose}
 use Rattle.net_ends.specs.Nets.{NetTold}
 use Rattle.net_ends.specs.Told.{Told}
@@ -16,12 +15,14 @@ use Rattle.socks_machine.specs.declared.lines.Line.{Line}
 use Rattle.socks_machine.specs.declared.record.Record.{Record}
 use Rattle.socks_machine.specs.declared.world.Object.{Object}
 use Rattle.socks_machine.specs.declared.world.Outer.{Outer}
+use Rattle.socks_machine.specs.Basis.{Basis}
 use Rattle.socks_machine.specs.Calls.{close_line, cause_of_shut}
 use Rattle.socks_machine.specs.Decisions.{reached_at}
 use Rattle.socks_machine.specs.History.{at_close}
 use Rattle.socks_machine.specs.Owed.{has_target, target_by}
 use Rattle.socks_machine.specs.Phase.{is_udp}
 use Rattle.socks_machine.specs.Settle.{is_nothing}
+use Rattle.socks_machine.specs.Socks.{socks}
 use Rattle.socks_machine.specs.Turn.{is_quiet}
 use Rattle.assoc_core.specs.declared.assoc.Assoc.{Assoc}
 use Rattle.assoc_core.specs.declared.assoc.Ended.{Ended}
@@ -64,8 +65,8 @@ plain-target : (r : Record) (at : Endpoint) → IsPlainRecord r → reached_at r
 plain-target r at plain reaches = decided-forms r (λ ds. reached_at ds ≡ Some at → has_target (record r { decisions = ds }) ≡ true) (record {
   nothing = λ fresh' k. absurd (cc);
   opened' = λ g rule d k. absurd (cc);
-  granted' = λ g rule g' facts verdict refused d k. absurd (cc);
-  reached' = λ g rule g' facts verdict to at' d k. ap (λ (z : Option Endpoint). target_by z None facts.command) k ∙ ap (λ (z : Command). target_by (Some at) None z) d.command;
+  granted' = λ g rule g' facts verdict route refused d k. absurd (cc);
+  reached' = λ g rule g' facts verdict route to at' d k. ap (λ (z : Option Endpoint). target_by z None facts.command) k ∙ ap (λ (z : Command). target_by (Some at) None z) d.command;
 }) r.decisions plain.decided reaches
 
 -- what a turn in Closing sends to its target
@@ -151,7 +152,7 @@ client-drained old mid told told' counts counts' give plain held ends' first sen
 pub drain-ends : {L : Type 0} (told : L → Told) (counts : L → Counts) (stands : List Line → List StopBy → Type 0)
     (users : List User) (pubs : List Config) (generation : ℕ) (config : Config) (cap : ℕ) (h : List Line) (marks : List StopBy) (now : ℕ) (net : NetTold)
     (a mid : Assoc L) (e : Ended L) (cause : Cause) (part_c rest_c part_t rest_t : List ℕ) (full_c full_t : Bool) (fault : Option Object) (unwritten : Bool)
-    → DrainTurn told counts net a (Next.Done e) cause part_c rest_c part_t rest_t full_c full_t fault unwritten → DrainFault a.state rest_c rest_t fault unwritten
+    → DrainTurn told counts (socks users pubs) net a (Next.Done e) cause part_c rest_c part_t rest_t full_c full_t fault unwritten → DrainFault a.state rest_c rest_t fault unwritten
     → mid.state ≡ drained a.state part_c part_t → Closed stands h marks cause mid e → a.state.since ≡ now
     → (is_nothing rest_c && is_nothing rest_t) || unwritten || is_quiet (Some cause) ≡ true
     → Turns told counts stands (context users pubs generation config cap h marks) now net net a (Next.Done e)
@@ -180,7 +181,7 @@ first-nothing : (xs ys : List ℕ) → xs ++ ys ≡ [] → xs ≡ []
 first-nothing [] ys h = refl
 first-nothing (x ∷ xs) ys h = absurd (cc)
 
-drained-plain : (old : Record) (cause : Cause) (part_c rest_c part_t rest_t : List ℕ) → Drains old cause part_c rest_c part_t rest_t → IsPlainRecord (drained old part_c part_t)
+drained-plain : {basis : Basis} (old : Record) (cause : Cause) (part_c rest_c part_t rest_t : List ℕ) → Drains basis old cause part_c rest_c part_t rest_t → IsPlainRecord (drained old part_c part_t)
 drained-plain old cause part_c rest_c part_t rest_t k = record {
   undone = k.plain.undone;
   unclosed = k.plain.unclosed;
@@ -191,9 +192,9 @@ drained-plain old cause part_c rest_c part_t rest_t k = record {
   decided = decided-forms old (λ ds. (reached_at ds ≡ None → x.sent_t ≡ []) → HasDecided x ds) (record {
     nothing = λ fresh' f. absurd (none-some (ap (λ (z : Record). z.cause) fresh'));
     opened' = λ g rule d f. record { untargeted = still d.untargeted (f refl); talks = d.talks };
-    granted' = λ g rule g' facts verdict refused d f.
+    granted' = λ g rule g' facts verdict route refused d f.
         record { untargeted = still d.untargeted (f refl); whole = d.whole; version = d.version; command = d.command; unended = d.unended; stands = d.stands };
-    reached' = λ g rule g' facts verdict to at d f. record {
+    reached' = λ g rule g' facts verdict route to at d f. record {
       whole = d.whole;
       version = d.version;
       command = d.command;
@@ -230,13 +231,13 @@ same-link told net (Some link) = record { arrived = refl; cap = refl; unfailing 
 -- the client's write failed, and nothing was sent to the target
 pub client-failed : {L : Type 0} (told : L → Told) (counts : L → Counts) (stands : List Line → List StopBy → Type 0)
     (users : List User) (pubs : List Config) (generation : ℕ) (config : Config) (cap : ℕ) (h : List Line) (marks : List StopBy) (now : ℕ) (net : NetTold)
-    (a mid : Assoc L) (e : Ended L) (cause : Cause) (gave_c : Give) → Stands told a → a.state.cause ≡ Some cause → a.state.since ≡ now
+    (a mid : Assoc L) (e : Ended L) (cause : Cause) (gave_c : Give) → Stands told (socks users pubs) a → a.state.cause ≡ Some cause → a.state.since ≡ now
     → SendsClient (told a.client) (told mid.client) (counts a.client) (counts mid.client) a.state mid.state gave_c → mid.target ≡ a.target
     → is_sound gave_c ≡ false → Closed stands h marks cause mid e
     → Turns told counts stands (context users pubs generation config cap h marks) now net net a (Next.Done e)
 client-failed {L} told counts stands users pubs generation config cap h marks now net a mid e cause gave_c st caused same sends kept unsound closed =
     drain-ends told counts stands users pubs generation config cap h marks now net a mid e cause d.part d.rest [] st.plain.sent_t.0 false false (Some Object.Client) true (record {
-      drains = record { plain = st.plain; caused = caused; owes_c = d.owes; owes_t = ap (λ z. z ++ st.plain.sent_t.0) (append-nil a.state.sent_t) ∙ st.plain.sent_t.1 };
+      drains = record { plain = st.plain; caused = caused; direct = st.direct; owes_c = d.owes; owes_t = ap (λ z. z ++ st.plain.sent_t.0) (append-nil a.state.sent_t) ∙ st.plain.sent_t.1 };
       client = d.holds';
       client_ends = d.ends';
       client_first = d.first;
@@ -261,16 +262,16 @@ client-failed {L} told counts stands users pubs generation config cap h marks no
     or-written false b = refl
 
 -- both were sent what was pending, and the target's link may have failed
-record SentBoth {L : Type 0} (told : L → Told) (counts : L → Counts) (net : NetTold) (a mid : Assoc L) (next : Next L) (between : Record) (cause : Cause) (gave_c gave_t : Give) : Type 0 where
-  pub st : Stands told a
+record SentBoth {L : Type 0} (told : L → Told) (counts : L → Counts) (basis : Basis) (net : NetTold) (a mid : Assoc L) (next : Next L) (between : Record) (cause : Cause) (gave_c gave_t : Give) : Type 0 where
+  pub st : Stands told basis a
   pub caused : a.state.cause ≡ Some cause
   pub c : DrainedClient a.state between (told a.client) (told (left_of next).client) (counts a.client) (counts (left_of next).client) gave_c
   pub t : DrainedTarget told net a.state mid.state (a.state.sent_c ++ c.part) a.target (left_of next).target gave_t
 
-sent-both : {L : Type 0} (told : L → Told) (counts : L → Counts) (net : NetTold) (a mid : Assoc L) (next : Next L) (between : Record) (cause : Cause) (gave_c gave_t : Give) → Stands told a → a.state.cause ≡ Some cause
+sent-both : {L : Type 0} {basis : Basis} (told : L → Told) (counts : L → Counts) (net : NetTold) (a mid : Assoc L) (next : Next L) (between : Record) (cause : Cause) (gave_c gave_t : Give) → Stands told basis a → a.state.cause ≡ Some cause
     → (left_of next).client ≡ mid.client → (left_of next).target ≡ mid.target
     → SendsClient (told a.client) (told mid.client) (counts a.client) (counts mid.client) a.state between gave_c → SendsTarget told a.target mid.target between mid.state gave_t
-    → SentBoth told counts net a mid next between cause gave_c gave_t
+    → SentBoth told counts basis net a mid next between cause gave_c gave_t
 sent-both {L} told counts net a mid next between cause gave_c gave_t st caused client target sends_c sends_t = record { st = st; caused = caused; c = d; t = t }
   where
     d : DrainedClient a.state between (told a.client) (told (left_of next).client) (counts a.client) (counts (left_of next).client) gave_c
@@ -282,14 +283,14 @@ sent-both {L} told counts net a mid next between cause gave_c gave_t st caused c
         (subst (λ (z : Option L). SendsTarget told a.target z (record a.state { sent_c = a.state.sent_c ++ d.part }) mid.state gave_t) (sym target)
         (subst (λ (r : Record). SendsTarget told a.target mid.target r mid.state gave_t) d.is sends_t))
 
-both-drains : {L : Type 0} (told : L → Told) (counts : L → Counts) (net : NetTold) (a mid : Assoc L) (next : Next L) (between : Record) (cause : Cause) (gave_c gave_t : Give)
-    → (k : SentBoth told counts net a mid next between cause gave_c gave_t) → Drains a.state cause k.c.part k.c.rest k.t.part k.t.rest
-both-drains told counts net a mid next between cause gave_c gave_t k = record { plain = k.st.plain; caused = k.caused; owes_c = k.c.owes; owes_t = k.t.owes }
+both-drains : {L : Type 0} {basis : Basis} (told : L → Told) (counts : L → Counts) (net : NetTold) (a mid : Assoc L) (next : Next L) (between : Record) (cause : Cause) (gave_c gave_t : Give)
+    → (k : SentBoth told counts basis net a mid next between cause gave_c gave_t) → Drains basis a.state cause k.c.part k.c.rest k.t.part k.t.rest
+both-drains told counts net a mid next between cause gave_c gave_t k = record { plain = k.st.plain; caused = k.caused; direct = k.st.direct; owes_c = k.c.owes; owes_t = k.t.owes }
 
-both-turn : {L : Type 0} (told : L → Told) (counts : L → Counts) (net : NetTold) (a mid : Assoc L) (next : Next L) (between : Record) (cause : Cause) (gave_c gave_t : Give) (fault : Option Object) (unwritten : Bool)
-    → (k : SentBoth told counts net a mid next between cause gave_c gave_t) → (fault ≡ Some Object.Client → ⊥)
+both-turn : {L : Type 0} {basis : Basis} (told : L → Told) (counts : L → Counts) (net : NetTold) (a mid : Assoc L) (next : Next L) (between : Record) (cause : Cause) (gave_c gave_t : Give) (fault : Option Object) (unwritten : Bool)
+    → (k : SentBoth told counts basis net a mid next between cause gave_c gave_t) → (fault ≡ Some Object.Client → ⊥)
     → (IsUnfailing told net a.target → (fault ≡ None) × (unwritten ≡ false))
-    → DrainTurn told counts net a next cause k.c.part k.c.rest k.t.part k.t.rest (is_full gave_c) (is_full gave_t) fault unwritten
+    → DrainTurn told counts basis net a next cause k.c.part k.c.rest k.t.part k.t.rest (is_full gave_c) (is_full gave_t) fault unwritten
 both-turn told counts net a mid next between cause gave_c gave_t fault unwritten k other fine = record {
   drains = both-drains told counts net a mid next between cause gave_c gave_t k;
   client = k.c.holds';
@@ -310,7 +311,7 @@ both-turn told counts net a mid next between cause gave_c gave_t fault unwritten
 
 pub target-failed : {L : Type 0} (told : L → Told) (counts : L → Counts) (stands : List Line → List StopBy → Type 0)
     (users : List User) (pubs : List Config) (generation : ℕ) (config : Config) (cap : ℕ) (h : List Line) (marks : List StopBy) (now : ℕ) (net : NetTold)
-    (a mid : Assoc L) (e : Ended L) (between : Record) (cause : Cause) (gave_c gave_t : Give) → Stands told a → a.state.cause ≡ Some cause → a.state.since ≡ now
+    (a mid : Assoc L) (e : Ended L) (between : Record) (cause : Cause) (gave_c gave_t : Give) → Stands told (socks users pubs) a → a.state.cause ≡ Some cause → a.state.since ≡ now
     → SendsClient (told a.client) (told mid.client) (counts a.client) (counts mid.client) a.state between gave_c → SendsTarget told a.target mid.target between mid.state gave_t
     → is_sound gave_t ≡ false → Closed stands h marks cause mid e
     → Turns told counts stands (context users pubs generation config cap h marks) now net net a (Next.Done e)
@@ -328,7 +329,7 @@ target-failed told counts stands users pubs generation config cap h marks now ne
 -- nothing failed, and nothing is left to do
 pub drain-done : {L : Type 0} (told : L → Told) (counts : L → Counts) (stands : List Line → List StopBy → Type 0)
     (users : List User) (pubs : List Config) (generation : ℕ) (config : Config) (cap : ℕ) (h : List Line) (marks : List StopBy) (now : ℕ) (net : NetTold)
-    (a mid : Assoc L) (e : Ended L) (between : Record) (cause : Cause) (gave_c gave_t : Give) → Stands told a → a.state.cause ≡ Some cause → a.state.since ≡ now
+    (a mid : Assoc L) (e : Ended L) (between : Record) (cause : Cause) (gave_c gave_t : Give) → Stands told (socks users pubs) a → a.state.cause ≡ Some cause → a.state.since ≡ now
     → SendsClient (told a.client) (told mid.client) (counts a.client) (counts mid.client) a.state between gave_c → SendsTarget told a.target mid.target between mid.state gave_t
     → is_sound gave_c ≡ true → is_sound gave_t ≡ true → (is_quiet (Some cause) ≡ true) ⊎ ((is_full gave_c ≡ false) × (is_full gave_t ≡ false)) → Closed stands h marks cause mid e
     → Turns told counts stands (context users pubs generation config cap h marks) now net net a (Next.Done e)
@@ -350,16 +351,16 @@ drain-done told counts stands users pubs generation config cap h marks now net a
 -- something is left that a link doesn't take
 pub drain-rests : {L : Type 0} (told : L → Told) (counts : L → Counts) (stands : List Line → List StopBy → Type 0)
     (users : List User) (pubs : List Config) (generation : ℕ) (config : Config) (cap : ℕ) (h : List Line) (marks : List StopBy) (now : ℕ) (net : NetTold)
-    (a mid : Assoc L) (between : Record) (cause : Cause) (gave_c gave_t : Give) → Stands told a → a.state.cause ≡ Some cause → a.state.since ≡ now
+    (a mid : Assoc L) (between : Record) (cause : Cause) (gave_c gave_t : Give) → Stands told (socks users pubs) a → a.state.cause ≡ Some cause → a.state.since ≡ now
     → SendsClient (told a.client) (told mid.client) (counts a.client) (counts mid.client) a.state between gave_c → SendsTarget told a.target mid.target between mid.state gave_t
-    → is_sound gave_c ≡ true → is_sound gave_t ≡ true → is_quiet (Some cause) ≡ false → is_full gave_c || is_full gave_t ≡ true → IsPlain config → stands h marks
+    → is_sound gave_c ≡ true → is_sound gave_t ≡ true → is_quiet (Some cause) ≡ false → is_full gave_c || is_full gave_t ≡ true → stands h marks
     → Turns told counts stands (context users pubs generation config cap h marks) now net net a (Next.Wait mid)
-drain-rests told counts stands users pubs generation config cap h marks now net a mid between cause gave_c gave_t st caused same sends_c sends_t sound_c sound_t loud full config-plain desked =
+drain-rests told counts stands users pubs generation config cap h marks now net a mid between cause gave_c gave_t st caused same sends_c sends_t sound_c sound_t loud full desked =
     let k = sent-both told counts net a mid (Next.Wait mid) between cause gave_c gave_t st caused refl refl sends_c sends_t in
     drain-turns told counts stands users pubs generation config cap h marks now net a (Next.Wait mid) cause k.c.part k.c.rest k.t.part k.t.rest (is_full gave_c) (is_full gave_t) None false Outer.Nothing
     a.state.at_close a.state.done h marks (both-turn told counts net a mid (Next.Wait mid) between cause gave_c gave_t None false k (λ f. cc) (λ fine. (refl, refl))) tt
     (λ worker. drain-waits users pubs generation config cap h marks worker a.state.number now a.state cause k.c.part k.c.rest k.t.part k.t.rest (is_full gave_c) (is_full gave_t)
-    (both-drains told counts net a mid (Next.Wait mid) between cause gave_c gave_t k) same config-plain
+    (both-drains told counts net a mid (Next.Wait mid) between cause gave_c gave_t k) same
     ((λ i. (k.c.nothing sound_c i && k.t.nothing sound_t i) || false || loud i) ∙ undue (is_full gave_c) (is_full gave_t) full)
     (sink (is_nothing k.c.rest) (is_full gave_c) (k.c.nothing sound_c)) (sink (is_nothing k.t.rest) (is_full gave_t) (k.t.nothing sound_t)))
     k.t.is desked (subst IsPlainRecord (sym k.t.is) (drained-plain a.state cause k.c.part k.c.rest k.t.part k.t.rest (both-drains told counts net a mid (Next.Wait mid) between cause gave_c gave_t k)))

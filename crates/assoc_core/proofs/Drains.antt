@@ -4,7 +4,6 @@ use Rattle.std.proofs.lemmas.List.{append-nil}
 use Rattle.std.proofs.Math.Seq.{drop-append_seam}
 use Rattle.conf_model.specs.declared.config.Config.{Config}
 use Rattle.conf_model.specs.declared.user.User.{User}
-use Rattle.conf_model.specs.Plain.{IsPlain}
 use Rattle.net_ends.specs.Counts.{Counts, Rose}
 use Rattle.net_ends.specs.Nets.{NetTold}
 use Rattle.net_ends.specs.Told.{Told}
@@ -30,7 +29,7 @@ use Rattle.socks_machine.specs.Turn.{turn, marked, guard, with_fault, fault_fits
 use Rattle.assoc_core.specs.declared.assoc.Assoc.{Assoc}
 use Rattle.assoc_core.specs.declared.assoc.Next.{Next}
 use Rattle.assoc_core.specs.Plain.{IsPlainRecord, owed_c, owed_t}
-use Rattle.assoc_core.specs.Stands.{Holds, HoldsTarget, EndsBehind, GivesFirst}
+use Rattle.assoc_core.specs.Stands.{GoesDirect, Holds, HoldsTarget, EndsBehind, GivesFirst}
 use Rattle.assoc_core.specs.Turns.{Acts, event_of, context, links, Turns, GoesOn, left_of, mark_of, StopsReading, IsFull, IsThereAnd, IsUnfailing, SameOutside, SameTarget}
 use Rattle.assoc_core.proofs.LinksHeld.{short}
 use Rattle.assoc_core.proofs.PlainRecords.{decided-forms, closing-phase, plain-owes-client, plain-owes-target}
@@ -63,9 +62,10 @@ abbrev pub drained : Record → List ℕ → List ℕ → Record
 drained old part_c part_t = record old { sent_c = old.sent_c ++ part_c; sent_t = old.sent_t ++ part_t }
 
 -- a record with a cause, of whose owed bytes these were sent and these are left
-pub record Drains (old : Record) (cause : Cause) (part_c rest_c part_t rest_t : List ℕ) : Type 0 where
+pub record Drains (basis : Basis) (old : Record) (cause : Cause) (part_c rest_c part_t rest_t : List ℕ) : Type 0 where
   pub plain : IsPlainRecord old
   pub caused : old.cause ≡ Some cause
+  pub direct : GoesDirect basis old.decisions
   pub owes_c : (old.sent_c ++ part_c) ++ rest_c ≡ owed_c old
   pub owes_t : (old.sent_t ++ part_t) ++ rest_t ≡ owed_t old
 
@@ -85,8 +85,8 @@ drain-opened : (old : Record) (cause : Cause) → IsPlainRecord old → old.caus
 drain-opened old cause plain caused = decided-forms old (λ ds. is_opened ds ≡ true) (record {
   nothing = λ fresh'. absurd (none-some (ap (λ (z : Record). z.cause) fresh'));
   opened' = λ g rule d. refl;
-  granted' = λ g rule g' facts verdict refused d. refl;
-  reached' = λ g rule g' facts verdict to at d. refl;
+  granted' = λ g rule g' facts verdict route refused d. refl;
+  reached' = λ g rule g' facts verdict route to at d. refl;
 }) old.decisions plain.decided
   where
     none-some : old.cause ≡ None → ⊥
@@ -97,7 +97,7 @@ behind sent part rest owed h = ap (drop (length sent)) (sym h ∙ append_assoc s
 
 drain-turn : (users : List User) (pubs : List Config) (generation : ℕ) (config : Config) (cap : ℕ) (h : List Line) (marks : List StopBy) (worker number now : ℕ)
     (old : Record) (cause : Cause) (part_c rest_c part_t rest_t : List ℕ) (full_c full_t : Bool) (fault : Option Object) (unwritten : Bool)
-    → Drains old cause part_c rest_c part_t rest_t → DrainFault old rest_c rest_t fault unwritten
+    → Drains (socks users pubs) old cause part_c rest_c part_t rest_t → DrainFault old rest_c rest_t fault unwritten
     → InTurn (context users pubs generation config cap h marks) old (event_of worker number now (drain_acts part_c part_t full_c full_t fault unwritten Outer.Nothing) NextMark.Going) old
     (keep (context users pubs generation config cap h marks) old) old (drained old part_c part_t)
 drain-turn users pubs generation config cap h marks worker number now old cause part_c rest_c part_t rest_t full_c full_t fault unwritten k f = record {
@@ -106,8 +106,8 @@ drain-turn users pubs generation config cap h marks worker number now old cause 
   calls = inl (refl, refl);
   faults = faulted fault f;
   sendings = record {
-    c = record { bytes = part_c; now' = refl; count = refl; rest = rest_c; owed' = k.owes_c ∙ sym (plain-owes-client users pubs old k.plain) };
-    t = record { bytes = part_t; now' = refl; count = refl; rest = rest_t; owed' = k.owes_t ∙ sym (plain-owes-target users pubs old k.plain) };
+    c = record { bytes = part_c; now' = refl; count = refl; rest = rest_c; owed' = k.owes_c ∙ sym (plain-owes-client users pubs old k.plain k.direct.direct) };
+    t = record { bytes = part_t; now' = refl; count = refl; rest = rest_t; owed' = k.owes_t ∙ sym (plain-owes-target users pubs old k.plain k.direct.direct) };
     u = sends-none old.sent_u (owed_datagrams (socks users pubs) old) k.plain.sent_u;
   };
   shuts = refl;
@@ -124,7 +124,7 @@ drain-turn users pubs generation config cap h marks worker number now old cause 
     faulted (Some Object.Port) f = absurd f
 
 drain-fits : (users : List User) (pubs : List Config) (old : Record) (cause : Cause) (part_c rest_c part_t rest_t : List ℕ) (fault : Option Object) (unwritten : Bool)
-    → Drains old cause part_c rest_c part_t rest_t → DrainFault old rest_c rest_t fault unwritten → fault_fits (socks users pubs) fault unwritten old ≡ true
+    → Drains (socks users pubs) old cause part_c rest_c part_t rest_t → DrainFault old rest_c rest_t fault unwritten → fault_fits (socks users pubs) fault unwritten old ≡ true
 drain-fits users pubs old cause part_c rest_c part_t rest_t fault unwritten k = by-fault fault
   where
     basis : Basis
@@ -134,10 +134,10 @@ drain-fits users pubs old cause part_c rest_c part_t rest_t fault unwritten k = 
     fixed c = λ i. record old { cause = (ap (first_cause (Some c)) k.caused ∙ sym k.caused) i }
 
     pending_c : pending_to_client basis old ≡ part_c ++ rest_c
-    pending_c = behind old.sent_c part_c rest_c _ (k.owes_c ∙ sym (plain-owes-client users pubs old k.plain))
+    pending_c = behind old.sent_c part_c rest_c _ (k.owes_c ∙ sym (plain-owes-client users pubs old k.plain k.direct.direct))
 
     pending_t : pending_to_target basis old ≡ part_t ++ rest_t
-    pending_t = behind old.sent_t part_t rest_t _ (k.owes_t ∙ sym (plain-owes-target users pubs old k.plain))
+    pending_t = behind old.sent_t part_t rest_t _ (k.owes_t ∙ sym (plain-owes-target users pubs old k.plain k.direct.direct))
 
     or-middle : (a b : Bool) → a || true || b ≡ true
     or-middle true b = refl
@@ -165,17 +165,17 @@ drain-fits users pubs old cause part_c rest_c part_t rest_t fault unwritten k = 
     by-fault (Some Object.Door) f = absurd f
     by-fault (Some Object.Port) f = absurd f
 
-drain-pending-c : (users : List User) (pubs : List Config) (old : Record) (cause : Cause) (part_c rest_c part_t rest_t : List ℕ) → Drains old cause part_c rest_c part_t rest_t
+drain-pending-c : (users : List User) (pubs : List Config) (old : Record) (cause : Cause) (part_c rest_c part_t rest_t : List ℕ) → Drains (socks users pubs) old cause part_c rest_c part_t rest_t
     → pending_to_client (socks users pubs) (drained old part_c part_t) ≡ rest_c
-drain-pending-c users pubs old cause part_c rest_c part_t rest_t k = drop-sent (old.sent_c ++ part_c) rest_c _ (k.owes_c ∙ sym (plain-owes-client users pubs old k.plain))
+drain-pending-c users pubs old cause part_c rest_c part_t rest_t k = drop-sent (old.sent_c ++ part_c) rest_c _ (k.owes_c ∙ sym (plain-owes-client users pubs old k.plain k.direct.direct))
 
-drain-pending-t : (users : List User) (pubs : List Config) (old : Record) (cause : Cause) (part_c rest_c part_t rest_t : List ℕ) → Drains old cause part_c rest_c part_t rest_t
+drain-pending-t : (users : List User) (pubs : List Config) (old : Record) (cause : Cause) (part_c rest_c part_t rest_t : List ℕ) → Drains (socks users pubs) old cause part_c rest_c part_t rest_t
     → pending_to_target (socks users pubs) (drained old part_c part_t) ≡ rest_t
-drain-pending-t users pubs old cause part_c rest_c part_t rest_t k = drop-sent (old.sent_t ++ part_t) rest_t _ (k.owes_t ∙ sym (plain-owes-target users pubs old k.plain))
+drain-pending-t users pubs old cause part_c rest_c part_t rest_t k = drop-sent (old.sent_t ++ part_t) rest_t _ (k.owes_t ∙ sym (plain-owes-target users pubs old k.plain k.direct.direct))
 
 pub drain-closes : (users : List User) (pubs : List Config) (generation : ℕ) (config : Config) (cap : ℕ) (h : List Line) (marks : List StopBy) (worker number now : ℕ)
     (old : Record) (cause : Cause) (part_c rest_c part_t rest_t : List ℕ) (full_c full_t : Bool) (fault : Option Object) (unwritten logged : Bool)
-    → Drains old cause part_c rest_c part_t rest_t → DrainFault old rest_c rest_t fault unwritten → old.since ≡ now
+    → Drains (socks users pubs) old cause part_c rest_c part_t rest_t → DrainFault old rest_c rest_t fault unwritten → old.since ≡ now
     → (is_nothing rest_c && is_nothing rest_t) || unwritten || is_quiet (Some cause) ≡ true
     → turn (context users pubs generation config cap h marks) (event_of worker number now (drain_acts part_c part_t full_c full_t fault unwritten (Outer.Desk logged)) NextMark.Done) old
     ≡ Some (marked NextMark.Done (call_close h marks (drained old part_c part_t) cause logged))
@@ -188,15 +188,15 @@ drain-closes users pubs generation config cap h marks worker number now old caus
 
 pub drain-waits : (users : List User) (pubs : List Config) (generation : ℕ) (config : Config) (cap : ℕ) (h : List Line) (marks : List StopBy) (worker number now : ℕ)
     (old : Record) (cause : Cause) (part_c rest_c part_t rest_t : List ℕ) (full_c full_t : Bool)
-    → Drains old cause part_c rest_c part_t rest_t → old.since ≡ now → IsPlain config
+    → Drains (socks users pubs) old cause part_c rest_c part_t rest_t → old.since ≡ now
     → (is_nothing rest_c && is_nothing rest_t) || false || is_quiet (Some cause) ≡ false → is_nothing rest_c || full_c ≡ true → is_nothing rest_t || full_t ≡ true
     → turn (context users pubs generation config cap h marks) (event_of worker number now (drain_acts part_c part_t full_c full_t None false Outer.Nothing) NextMark.Wait) old
     ≡ Some (keep (context users pubs generation config cap h marks) (drained old part_c part_t))
-drain-waits users pubs generation config cap h marks worker number now old cause part_c rest_c part_t rest_t full_c full_t k same config-plain undue sink_c sink_t =
+drain-waits users pubs generation config cap h marks worker number now old cause part_c rest_c part_t rest_t full_c full_t k same undue sink_c sink_t =
     rests-with (context users pubs generation config cap h marks) old worker number now (drain_acts part_c part_t full_c full_t None false Outer.Nothing) old old (drained old part_c part_t) cause NextMark.Wait
     (drain-turn users pubs generation config cap h marks worker number now old cause part_c rest_c part_t rest_t full_c full_t None false k refl)
     (ap (λ p. is_calling p None) (closing-phase (socks users pubs) old cause k.plain.undone k.caused)) refl same refl k.plain.undone k.caused
-    (drain-opened old cause k.plain k.caused) config-plain
+    (drain-opened old cause k.plain k.caused)
     ((λ i. (is_nothing (drain-pending-c users pubs old cause part_c rest_c part_t rest_t k i) && is_nothing (drain-pending-t users pubs old cause part_c rest_c part_t rest_t k i)) || false || is_quiet (Some cause)) ∙ undue)
     (both _ _ (ap (λ z. is_nothing z || holds Object.Client (links full_c full_t)) (drain-pending-c users pubs old cause part_c rest_c part_t rest_t k) ∙ (ap (λ b. is_nothing rest_c || b) (idle-c full_c full_t) ∙ sink_c))
     (ap (λ z. is_nothing z || holds Object.Target (links full_c full_t)) (drain-pending-t users pubs old cause part_c rest_c part_t rest_t k) ∙ (ap (λ b. is_nothing rest_t || b) (idle-t full_c full_t) ∙ sink_t)))
@@ -204,9 +204,9 @@ drain-waits users pubs generation config cap h marks worker number now old cause
 
 -- ---- the turn
 
-pub record DrainTurn {L : Type 0} (told : L → Told) (counts : L → Counts) (net : NetTold) (a : Assoc L) (next : Next L) (cause : Cause) (part_c rest_c part_t rest_t : List ℕ)
+pub record DrainTurn {L : Type 0} (told : L → Told) (counts : L → Counts) (basis : Basis) (net : NetTold) (a : Assoc L) (next : Next L) (cause : Cause) (part_c rest_c part_t rest_t : List ℕ)
     (full_c full_t : Bool) (fault : Option Object) (unwritten : Bool) : Type 0 where
-  pub drains : Drains a.state cause part_c rest_c part_t rest_t
+  pub drains : Drains basis a.state cause part_c rest_c part_t rest_t
   pub client : Holds (told (left_of next).client) a.state.c (a.state.sent_c ++ part_c) a.state.end_c a.state.shut_c
   pub client_ends : EndsBehind (told (left_of next).client)
   pub client_first : GivesFirst (told (left_of next).client)
@@ -222,7 +222,7 @@ pub drain-turns : {L : Type 0} (told : L → Told) (counts : L → Counts) (stan
     (users : List User) (pubs : List Config) (generation : ℕ) (config : Config) (cap : ℕ) (h : List Line) (marks : List StopBy) (now : ℕ) (net : NetTold)
     (a : Assoc L) (next : Next L) (cause : Cause) (part_c rest_c part_t rest_t : List ℕ) (full_c full_t : Bool) (fault : Option Object) (unwritten : Bool) (outer : Outer)
     (at_close : Option Cause) (done : Bool) (h' : List Line) (marks' : List StopBy)
-    → DrainTurn told counts net a next cause part_c rest_c part_t rest_t full_c full_t fault unwritten → IsDesk outer
+    → DrainTurn told counts (socks users pubs) net a next cause part_c rest_c part_t rest_t full_c full_t fault unwritten → IsDesk outer
     → ((worker : ℕ) → turn (context users pubs generation config cap h marks)
     (event_of worker a.state.number now (drain_acts part_c part_t full_c full_t fault unwritten outer) (mark_of next)) a.state
     ≡ Some (record { left = record (drained a.state part_c part_t) { at_close = at_close; done = done }; h = h'; marks = marks' }))
@@ -236,6 +236,7 @@ drain-turns {L} told counts stands users pubs generation config cap h marks now 
   state' = state;
   desk = desked;
   goes_on = goes;
+  direct = k.drains.direct;
   c = sym (append-nil a.state.c);
   t = sym (append-nil a.state.t);
   sent_c = length-append a.state.sent_c part_c;

@@ -1,17 +1,21 @@
 -- The turn in which a request is whole: it is granted or refused, and the client is written to.
-use Rattle.std.proofs.Common.{◌≡◌, ℕ, ◌<◌, ◌-◌, Bool, true, false, ◌&&◌, ◌||◌, not, if◌then◌else◌, Option, Some, None, List, [], ◌∷◌, ◌++◌, length, drop, slice_set, refl, sym, ap, subst, ◌∙◌, inr, is_some, length-append, arith}
+use Rattle.std.proofs.Common.{◌≡◌, ℕ, zero, suc, ◌<◌, ◌≤◌, ◌-◌, Bool, true, false, ◌&&◌, ◌||◌, not, if◌then◌else◌, Option, Some, None, List, [], ◌∷◌, ◌++◌, length, All, drop, slice_get, slice_set, refl, sym, ap, subst, ◌∙◌, inr, is_some, length-append, arith}
+use Rattle.std.proofs.lemmas.List.Elements.{All-head, All-tail}
+use Rattle.std.proofs.lemmas.Option.{slice_get_within}
 use Rattle.std.proofs.Math.Seq.{set-append_seam}
 use mathlib.Core.List.{IsPrefix}
 use Rattle.addr_pattern.specs.declared.endpoint.Endpoint.{Endpoint}
 use Rattle.conf_model.specs.declared.config.Config.{Config}
 use Rattle.conf_model.specs.declared.protocol.Version.{Version}
+use Rattle.conf_model.specs.declared.route.Route.{Route}
+use Rattle.conf_model.specs.declared.route.Via.{Via}
 use Rattle.conf_model.specs.declared.user.User.{User}
 use Rattle.conf_model.specs.Handshake.{version_of}
 use Rattle.net_ends.specs.Counts.{Counts, Rose}
 use Rattle.net_ends.specs.Nets.{NetTold}
 use Rattle.net_ends.specs.Told.{Told}
 use Rattle.rule_list.specs.declared.facts.Facts.{Facts}
-use Rattle.rule_list.specs.Rules.{route_of, first, route_matches}
+use Rattle.rule_list.specs.Rules.{numbered, route_of, via_of, via_of_route}
 use Rattle.session_desk.specs.Calls.{Grants}
 use Rattle.socks_machine.specs.declared.cause.Cause.{Cause}
 use Rattle.socks_machine.specs.declared.cause.StopBy.{StopBy}
@@ -33,9 +37,10 @@ use Rattle.socks_machine.specs.Phase.{phase}
 use Rattle.socks_machine.specs.Replies.{refusal}
 use Rattle.socks_machine.specs.Served.{is_whole_input}
 use Rattle.socks_machine.specs.Settle.{is_nothing, first_cause}
-use Rattle.socks_machine.specs.Socks.{chosen_reply}
+use Rattle.socks_machine.specs.Socks.{socks, chosen_reply}
 use Rattle.socks_machine.specs.Taking.{reads_client, reads_target}
 use Rattle.socks_machine.specs.Turn.{turn, marked, reads_in, has_pending, may_be_shut, may_write, fault_fits, with_fault}
+use Rattle.socks_machine.specs.View.{proxy_in, proxy_of_via}
 use Rattle.socks_machine.proofs.CallLaws.{grants, answers-call}
 use Rattle.assoc_core.specs.declared.assoc.Assoc.{Assoc}
 use Rattle.assoc_core.specs.declared.assoc.Next.{Next}
@@ -65,17 +70,17 @@ last-set ds now after x y now' after' =
     after' ∙ ((λ i. slice_set (now' i) (n i) y) ∙ set-append_seam ds x [] y)
 
 pub asks : (stands : List Line → List StopBy → Type 0) (h : List Line) (marks : List StopBy) (generation : ℕ) (config : Config) (to : Endpoint) (old : Record) (line : GrantLine) (facts : Facts) (said : Said)
-    (refused why cause : Option Cause) (pushed after : List Decision) (provisional : Decision)
-    → line ≡ request_line generation config old to → facts ≡ connect_facts old to → Grants stands h marks line said
+    (route : Option ℕ) (refused why cause : Option Cause) (pushed after : List Decision) (provisional : Decision)
+    → line ≡ request_line generation config old to → facts ≡ connect_facts old to → route ≡ route_of config (connect_facts old to) → Grants stands h marks line said
     → why ≡ blocked generation line.verdict → refused ≡ refusal_full generation said why → pushed ≡ old.decisions ++ provisional ∷ []
-    → after ≡ slice_set pushed (length pushed - 1) (Decision.Granted generation facts line.verdict None refused) → cause ≡ first_cause refused old.cause
+    → after ≡ slice_set pushed (length pushed - 1) (Decision.Granted generation facts line.verdict route refused) → cause ≡ first_cause refused old.cause
     → AsksGrant stands h marks generation config to old (record old { decisions = after; cause = cause })
-asks stands h marks generation config to old line facts said refused why cause pushed after provisional line' facts' desk why' refused' pushed' after' cause' = record {
+asks stands h marks generation config to old line facts said route refused why cause pushed after provisional line' facts' route' desk why' refused' pushed' after' cause' = record {
   said = said;
   desk = subst (λ (l : GrantLine). Grants stands h marks l said) line' desk;
   state' =
-      (λ i. record old { decisions = last-set old.decisions pushed after provisional (Decision.Granted generation facts line.verdict None refused) pushed' after' i; cause = cause' i })
-      ∙ (λ i. record old { decisions = old.decisions ++ Decision.Granted generation (facts' i) (line' i).verdict None (is i) ∷ []; cause = first_cause (is i) old.cause });
+      (λ i. record old { decisions = last-set old.decisions pushed after provisional (Decision.Granted generation facts line.verdict route refused) pushed' after' i; cause = cause' i })
+      ∙ (λ i. record old { decisions = old.decisions ++ Decision.Granted generation (facts' i) (line' i).verdict (route' i) (is i) ∷ []; cause = first_cause (is i) old.cause });
 }
   where
     is : refused ≡ refusal_full generation said (blocked generation (verdict_on config old to))
@@ -84,7 +89,7 @@ asks stands h marks generation config to old line facts said refused why cause p
 -- ---- the record behind it
 
 abbrev pub granted_ds : Hearing → Endpoint → Option Cause → List Decision
-granted_ds t to refused = let_in t ++ Decision.Granted t.generation (connect_facts (heard t) to) (verdict_on t.config (heard t) to) None refused ∷ []
+granted_ds t to refused = let_in t ++ Decision.Granted t.generation (connect_facts (heard t) to) (verdict_on t.config (heard t) to) (route_of t.config (connect_facts (heard t) to)) refused ∷ []
 
 abbrev pub asked : Hearing → Endpoint → Option Cause → List ℕ → Option Cause → Record
 asked t to refused sent cause = talker t.party (t.c ++ t.x) sent false (answered t) (granted_ds t to refused) cause
@@ -108,6 +113,34 @@ connect-whole c to h = ap is_whole_input h.bytes' ∙ long h.reserved h.a h.b h.
   where
     long : (r a b c d p q : ℕ) (bs : List ℕ) → is_whole_input (5 ∷ 1 ∷ 0 ∷ 5 ∷ 1 ∷ r ∷ 1 ∷ a ∷ b ∷ c ∷ d ∷ p ∷ q ∷ bs) ≡ true
     long r a b c d p q bs = grind arith
+
+abbrev IsDirect : Route → Type 0
+IsDirect r = r.via ≡ Via.Direct
+
+-- a route of a configuration whose routes are all direct leads to no proxy
+via-at : (routes : List Route) (i : ℕ) → All IsDirect routes → via_of_route (slice_get routes i) ≡ Via.Direct
+via-at [] i h = refl
+via-at (r ∷ rs) zero h = All-head IsDirect r rs h
+via-at (r ∷ rs) (suc i) h = via-at rs i (All-tail IsDirect r rs h)
+
+via-direct : (config : Config) (route : Option ℕ) → All IsDirect config.routes → via_of config route ≡ Via.Direct
+via-direct config None h = refl
+via-direct config (Some zero) h = refl
+via-direct config (Some (suc i)) h = via-at config.routes i h
+
+-- the grant goes by no proxy
+grant-direct : (t : Hearing) (to : Endpoint) → proxy_in (route_of t.config (connect_facts (heard t) to)) (numbered t.pubs t.generation) ≡ None
+grant-direct t to =
+    ap (proxy_in (route_of t.config (connect_facts (heard t) to))) t.published
+    ∙ ap proxy_of_via (via-direct t.config (route_of t.config (connect_facts (heard t) to)) t.routes')
+
+-- and its configuration is published
+numbered-within : {A : Type 0} (xs : List A) (n : ℕ) (x : A) → numbered xs n ≡ Some x → n ≤ length xs
+numbered-within xs zero x h = omega arith
+numbered-within xs (suc i) x h = slice_get_within xs i x h
+
+grant-known : (t : Hearing) → t.generation ≤ length t.pubs
+grant-known t = numbered-within t.pubs t.generation t.config t.published
 
 pub plain-asked : (t : Hearing) (to : Endpoint) (refused : Option Cause) (sent : List ℕ) (cause : Option Cause) → IsConnect (t.c ++ t.x) to → (is_some refused ≡ true → is_some cause ≡ true)
     → IsPrefix sent (chosen_reply (answered t) ++ refusal_owed (t.c ++ t.x) None cause) → IsPlainRecord (asked t to refused sent cause)
@@ -134,6 +167,7 @@ owes-asked : (t : Hearing) (to : Endpoint) (refused cause : Option Cause) → Is
     → owed_to_client (basis_of t) (asked t to refused t.sent cause) ≡ chosen_reply (answered t) ++ refusal_owed (t.c ++ t.x) None cause
 owes-asked t to refused cause connects stands =
     plain-owes-client t.users t.pubs (asked t to refused t.sent cause) (plain-asked t to refused t.sent cause connects stands (first-sent t (refusal_owed (t.c ++ t.x) None cause)))
+    (grant-direct t to)
 
 silent : (v : Option Version) → refusal v no_login Cause.ClientFault ≡ []
 silent None = refl
@@ -158,13 +192,10 @@ grant-made : (t : Hearing) (to : Endpoint) (logged : Bool) (refused : Option Cau
     → refusal_full t.generation (at_grant t.h t.marks (request_line t.generation t.config (heard t) to) logged).said (blocked t.generation (verdict_on t.config (heard t) to)) ≡ refused
     → call_grant (context_of t) (heard t) (request_to to) logged ≡ granted_by t to logged refused
 grant-made t to logged refused e = λ i. record {
-  left = decided (Decision.Granted t.generation (connect_facts (heard t) to) (verdict_on t.config (heard t) to) (unrouted i) (e i)) (e i) (heard t);
+  left = decided (Decision.Granted t.generation (connect_facts (heard t) to) (verdict_on t.config (heard t) to) (route_of t.config (connect_facts (heard t) to)) (e i)) (e i) (heard t);
   h = (at_grant t.h t.marks (request_line t.generation t.config (heard t) to) logged).h;
   marks = (at_grant t.h t.marks (request_line t.generation t.config (heard t) to) logged).marks;
 }
-  where
-    unrouted : route_of t.config (connect_facts (heard t) to) ≡ None
-    unrouted = ap (λ rs. first (route_matches (connect_facts (heard t) to)) rs) t.routes'
 
 -- ---- the turn
 
@@ -264,7 +295,7 @@ has-failed false h = cc
 
 pub grants-turn : {L : Type 0} (told : L → Told) (counts : L → Counts) (stands : List Line → List StopBy → Type 0) (users : List User) (pubs : List Config) (generation : ℕ) (config : Config) (most : ℕ) (h : List Line) (marks : List StopBy)
     (now : ℕ) (net : NetTold) (a b : Assoc L) (client : L) (to : Endpoint) (g s : Record) (cause : Option Cause) (full failed : Bool) (outcome : Sent)
-    → HasHeard told counts generation config a b Heard.Decided → IsConnect (b.state).c to → (a.state).since ≡ now
+    → HasHeard told counts (socks users pubs) generation config a b Heard.Decided → IsConnect (b.state).c to → (a.state).since ≡ now
     → AsksGrant stands h marks generation config to b.state g
     → s ≡ record g { sent_c = s.sent_c }
     → Sends (told b.client) (told client) (counts b.client) (counts client) g.sent_c s.sent_c (drop (length g.sent_c) (owed_c g)) outcome
@@ -285,6 +316,7 @@ grants-turn told counts stands users pubs generation config most h marks now net
       desk' = desk.stands';
       goes_on = subst IsPlainRecord (sym is) (plain-asked t to refused s.sent_c (with_failure failed (first_cause refused None)) connects' (still-stands failed refused)
           (sends'.rest, owed-now ∙ ap (λ z. chosen_reply (answered t) ++ z) (sym (fault-owes (t.c ++ t.x) failed refused))));
+      direct' = record { direct = grant-direct t to; known = grant-known t };
       c' = refl;
       sent' = sends'.after';
       end_c' = refl;

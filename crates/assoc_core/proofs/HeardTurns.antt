@@ -16,13 +16,14 @@ use Rattle.socks_machine.specs.declared.record.Chosen.{Chosen}
 use Rattle.socks_machine.specs.declared.record.Decision.{Decision}
 use Rattle.socks_machine.specs.declared.record.Record.{Record}
 use Rattle.socks_machine.specs.declared.world.Object.{Object}
+use Rattle.socks_machine.specs.Basis.{Basis}
 use Rattle.socks_machine.specs.Calls.{is_calling}
 use Rattle.socks_machine.specs.Owed.{owed_to_client}
 use Rattle.socks_machine.specs.Phase.{Phase, phase, is_udp}
 use Rattle.socks_machine.specs.Replies.{refusal}
 use Rattle.socks_machine.specs.Served.{agrees, served_prelude, is_served_input, is_whole_input}
 use Rattle.socks_machine.specs.Settle.{is_nothing}
-use Rattle.socks_machine.specs.Socks.{chosen_reply}
+use Rattle.socks_machine.specs.Socks.{socks, chosen_reply}
 use Rattle.socks_machine.specs.Taking.{reads_client, reads_target}
 use Rattle.socks_machine.specs.Turn.{quantum, reads_in, may_be_shut, has_pending}
 use Rattle.assoc_core.specs.declared.assoc.Assoc.{Assoc}
@@ -57,7 +58,7 @@ pub talking-of : (r : Record) (ds : List Decision) (g : ℕ) (rule : Option ℕ)
 talking-of r ds g rule is h = subst (HasDecided r) is h
 
 abbrev pub hearing_of : {L : Type 0} (told : L → Told) (counts : L → Counts) (users : List User) (pubs : List Config) (generation : ℕ) (config : Config) (most : ℕ) (h : List Line) (marks : List StopBy)
-    (a b : Assoc L) (heard : Heard) → HasHeard told counts generation config a b heard → Hearing
+    (a b : Assoc L) (heard : Heard) → HasHeard told counts (socks users pubs) generation config a b heard → Hearing
 hearing_of told counts users pubs generation config most h marks a b heard k = record {
   users = users;
   pubs = pubs;
@@ -75,7 +76,7 @@ hearing_of told counts users pubs generation config most h marks a b heard k = r
   chosen = (a.state).chosen;
   methods' = (k.plain).methods;
   routes' = (k.plain).routes;
-  negotiate' = (k.plain).negotiate;
+  published = k.published;
   served = served-heard (told a.client) (told b.client) (a.state).c (a.state).sent_c (k.hears).bytes (a.state).end_c (a.state).shut_c _ k.served (k.stands).client (k.stands).client_first (k.hears).first (k.hears).told';
   chosen' = ((k.stands).plain).chosen';
   unwhole = ((talking-of a.state (a.state).decisions k.generation' k.rule k.opened' ((k.stands).plain).decided).talks k.uncaused).1;
@@ -84,7 +85,7 @@ hearing_of told counts users pubs generation config most h marks a b heard k = r
 }
 
 before-is : {L : Type 0} (told : L → Told) (counts : L → Counts) (users : List User) (pubs : List Config) (generation : ℕ) (config : Config) (most : ℕ) (h : List Line) (marks : List StopBy)
-    (a b : Assoc L) (heard : Heard) (k : HasHeard told counts generation config a b heard) → a.state ≡ before (hearing_of told counts users pubs generation config most h marks a b heard k)
+    (a b : Assoc L) (heard : Heard) (k : HasHeard told counts (socks users pubs) generation config a b heard) → a.state ≡ before (hearing_of told counts users pubs generation config most h marks a b heard k)
 before-is told counts users pubs generation config most h marks a b heard k = λ i. record {
   number = (a.state).number;
   peer = (a.state).peer;
@@ -111,18 +112,18 @@ before-is told counts users pubs generation config most h marks a b heard k = λ
     talking = talking-of a.state (a.state).decisions k.generation' k.rule k.opened' ((k.stands).plain).decided
 
 pub behind-is : {L : Type 0} (told : L → Told) (counts : L → Counts) (users : List User) (pubs : List Config) (generation : ℕ) (config : Config) (most : ℕ) (h : List Line) (marks : List StopBy)
-    (a b : Assoc L) (how : Heard) (k : HasHeard told counts generation config a b how) → b.state ≡ heard (hearing_of told counts users pubs generation config most h marks a b how k)
+    (a b : Assoc L) (how : Heard) (k : HasHeard told counts (socks users pubs) generation config a b how) → b.state ≡ heard (hearing_of told counts users pubs generation config most h marks a b how k)
 behind-is told counts users pubs generation config most h marks a b how k =
     k.state' ∙ (λ i. let r : Record = before-is told counts users pubs generation config most h marks a b how k i in
     record r { c = (k.hears).after' i; chosen = chosen_as generation r.chosen ((k.hears).after' i) })
 
 pub stands-before : {L : Type 0} (told : L → Told) (counts : L → Counts) (users : List User) (pubs : List Config) (generation : ℕ) (config : Config) (most : ℕ) (h : List Line) (marks : List StopBy)
-    (a b : Assoc L) (how : Heard) (k : HasHeard told counts generation config a b how) → Stands told (with_state a (before (hearing_of told counts users pubs generation config most h marks a b how k)))
+    (a b : Assoc L) (how : Heard) (k : HasHeard told counts (socks users pubs) generation config a b how) → Stands told (socks users pubs) (with_state a (before (hearing_of told counts users pubs generation config most h marks a b how k)))
 stands-before told counts users pubs generation config most h marks a b how k =
-    subst (λ (r : Record). Stands told (with_state a r)) (before-is told counts users pubs generation config most h marks a b how k) k.stands
+    subst (λ (r : Record). Stands told (socks users pubs) (with_state a r)) (before-is told counts users pubs generation config most h marks a b how k) k.stands
 
 pub turns-before : {L : Type 0} (told : L → Told) (counts : L → Counts) (stands : List Line → List StopBy → Type 0) (users : List User) (pubs : List Config) (generation : ℕ) (config : Config) (most : ℕ) (h : List Line) (marks : List StopBy)
-    (now : ℕ) (net : NetTold) (a b : Assoc L) (how : Heard) (next : Next L) (k : HasHeard told counts generation config a b how) → (a.state).since ≡ now
+    (now : ℕ) (net : NetTold) (a b : Assoc L) (how : Heard) (next : Next L) (k : HasHeard told counts (socks users pubs) generation config a b how) → (a.state).since ≡ now
     → (let t = hearing_of told counts users pubs generation config most h marks a b how k in Turns told counts stands (context_of t) (t.party).since net net (with_state a (before t)) next)
     → Turns told counts stands (context_of (hearing_of told counts users pubs generation config most h marks a b how k)) now net net a next
 turns-before told counts stands users pubs generation config most h marks now net a b how next k since v =
@@ -165,7 +166,7 @@ first-sent t z = sent-grows t.generation (t.c ++ t.x) t.sent z t.chosen t.sent'
 
 pub owes-caused : (t : Hearing) (ends : Bool) (cause : Option Cause) → (cause ≡ None → (ends ≡ false) × (is_whole_input (t.c ++ t.x) ≡ false))
     → owed_to_client (basis_of t) (caused t t.sent ends cause) ≡ chosen_reply (answered t) ++ refusal_owed (t.c ++ t.x) None cause
-owes-caused t ends cause talks = plain-owes-client t.users t.pubs (caused t t.sent ends cause) (plain-caused t t.sent ends cause talks (first-sent t (refusal_owed (t.c ++ t.x) None cause)))
+owes-caused t ends cause talks = plain-owes-client t.users t.pubs (caused t t.sent ends cause) (plain-caused t t.sent ends cause talks (first-sent t (refusal_owed (t.c ++ t.x) None cause))) refl
 
 -- what is left to send
 left-to-send : (t : Hearing) (ends : Bool) (cause : Cause) → (rest : List ℕ) × (t.sent ++ rest ≡ owed_to_client (basis_of t) (caused t t.sent ends (Some cause)))
@@ -183,7 +184,7 @@ short-heard t undecided = let h : length (t.c ++ t.x) < 13 = undecided-short (t.
 -- ---- the client has ended
 
 pub hangs-up : {L : Type 0} (told : L → Told) (counts : L → Counts) (stands : List Line → List StopBy → Type 0) (users : List User) (pubs : List Config) (generation : ℕ) (config : Config) (most : ℕ) (h : List Line) (marks : List StopBy)
-    (now : ℕ) (net : NetTold) (a b : Assoc L) (e : Ended L) (at : ℕ) → HasHeard told counts generation config a b Heard.End → (a.state).since ≡ now → at ≡ length (b.state).c
+    (now : ℕ) (net : NetTold) (a b : Assoc L) (e : Ended L) (at : ℕ) → HasHeard told counts (socks users pubs) generation config a b Heard.End → (a.state).since ≡ now → at ≡ length (b.state).c
     → (is_udp b.state ≡ false → Closed stands h marks (Cause.ClientGone at) (with_state b (let r = b.state in record r { end_c = true })) e)
     → Turns told counts stands (context users pubs generation config most h marks) now net net a (Next.Done e)
 hangs-up {L = L} told counts stands users pubs generation config most h marks now net a b e at k since at' closed =
@@ -242,7 +243,7 @@ pub owes-fault : (t : Hearing) → owed_to_client (basis_of t) (caused t t.sent 
 owes-fault t = owes-caused t false (Some Cause.ClientFault) (λ e. absurd (cc)) ∙ ap (λ z. chosen_reply (answered t) ++ z) (silent-fault (version_of (t.c ++ t.x)))
 
 pub reads-fail : {L : Type 0} (told : L → Told) (counts : L → Counts) (stands : List Line → List StopBy → Type 0) (users : List User) (pubs : List Config) (generation : ℕ) (config : Config) (most : ℕ) (h : List Line) (marks : List StopBy)
-    (now : ℕ) (net : NetTold) (a b : Assoc L) (e : Ended L) → HasHeard told counts generation config a b Heard.Failed → (a.state).since ≡ now
+    (now : ℕ) (net : NetTold) (a b : Assoc L) (e : Ended L) → HasHeard told counts (socks users pubs) generation config a b Heard.Failed → (a.state).since ≡ now
     → (is_udp b.state ≡ false → Closed stands h marks Cause.ClientFault b e)
     → Turns told counts stands (context users pubs generation config most h marks) now net net a (Next.Done e)
 reads-fail told counts stands users pubs generation config most h marks now net a b e k since closed =
@@ -302,9 +303,9 @@ decided-whole (b ∷ bs) served h = by (b == 4) (b == 5) refl refl served h
     by false true e4 e5 s k = rw (e4, e5) (both-true (agrees served_prelude (b ∷ bs)) (nat_le 13 (length (b ∷ bs))) s k)
     by false false e4 e5 s k = rw (e4, e5) refl
 
-pub never-more : {L : Type 0} (told : L → Told) (counts : L → Counts) (generation : ℕ) (config : Config) (a b : Assoc L) → HasHeard told counts generation config a b Heard.Decided
+pub never-more : {L : Type 0} (told : L → Told) (counts : L → Counts) (basis : Basis) (generation : ℕ) (config : Config) (a b : Assoc L) → HasHeard told counts basis generation config a b Heard.Decided
     → (is_served_input (b.state).c ≡ true → is_whole_input (b.state).c ≡ false) → ⊥
-never-more told counts generation config a b k unwhole = clash (is_whole_input (b.state).c) (decided-whole (b.state).c served (k.hears).decided') (unwhole served)
+never-more told counts basis generation config a b k unwhole = clash (is_whole_input (b.state).c) (decided-whole (b.state).c served (k.hears).decided') (unwhole served)
   where
     served : is_served_input (b.state).c ≡ true
     served = ap is_served_input (k.hears).after'
@@ -351,7 +352,7 @@ drop-none zero = refl
 drop-none (suc n) = refl
 
 pub turns-away : {L : Type 0} (told : L → Told) (counts : L → Counts) (stands : List Line → List StopBy → Type 0) (users : List User) (pubs : List Config) (generation : ℕ) (config : Config) (most : ℕ) (h : List Line) (marks : List StopBy)
-    (now : ℕ) (net : NetTold) (a b : Assoc L) (e : Ended L) (byte : ℕ) → HasHeard told counts generation config a b Heard.Decided → (a.state).since ≡ now → IsOther (b.state).c byte
+    (now : ℕ) (net : NetTold) (a b : Assoc L) (e : Ended L) (byte : ℕ) → HasHeard told counts (socks users pubs) generation config a b Heard.Decided → (a.state).since ≡ now → IsOther (b.state).c byte
     → (is_udp b.state ≡ false → Closed stands h marks (Cause.BadVersion 0 byte) b e)
     → Turns told counts stands (context users pubs generation config most h marks) now net net a (Next.Done e)
 turns-away told counts stands users pubs generation config most h marks now net a b e byte k since other closed =

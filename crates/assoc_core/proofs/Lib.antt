@@ -6,6 +6,7 @@ pub mod Drains
 pub mod GrantTurns
 pub mod HeardTurns
 pub mod Hearings
+pub mod Later
 pub mod LinksHeld
 pub mod PassLaws
 pub mod PlainRecords

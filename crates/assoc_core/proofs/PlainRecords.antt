@@ -1,5 +1,5 @@
 -- What the definitions say of a record of the first path: its split, its phase and what it owes.
-use Rattle.std.proofs.Common.{◌≡◌, ℕ, Bool, true, false, ◌&&◌, ◌==◌, if◌then◌else◌, Option, Some, None, List, [], ◌∷◌, ◌++◌, refl, sym, ap, ◌∙◌, is_some, is_none, drop, append_assoc, arith}
+use Rattle.std.proofs.Common.{◌≡◌, ℕ, Bool, true, false, ◌&&◌, ◌==◌, if◌then◌else◌, Option, Some, None, List, [], ◌∷◌, ◌++◌, refl, sym, ap, ◌∙◌, is_some, is_none, option_and_then, drop, append_assoc, arith}
 use Rattle.std.proofs.lemmas.List.{append-nil}
 use Rattle.addr_pattern.specs.declared.endpoint.Endpoint.{Endpoint}
 use Rattle.addr_pattern.specs.declared.host.Host.{Host}
@@ -26,7 +26,7 @@ use Rattle.socks_machine.specs.Replies.{refusal}
 use Rattle.socks_machine.specs.Served.{is_served_input, is_whole_input}
 use Rattle.socks_machine.specs.Socks.{socks, chosen_reply, passed_reply, success, is_in_login, is_granting_udp, is_proxy5}
 use Rattle.socks_machine.specs.Step.{fresh}
-use Rattle.socks_machine.specs.View.{view, length_of, proxy_of, proxy_in, outcome_with, said_with, said_to_proxy, split_of, login_passed, login_fits_behind, asks_login}
+use Rattle.socks_machine.specs.View.{view, length_of, proxy_of, proxy_in, proxy_of_grant, outcome_with, said_with, said_to_proxy, split_of, login_passed, login_fits_behind, asks_login}
 use Rattle.assoc_core.specs.Plain.{IsPlainRecord, HasChosen, HasDecided, Talking, Judged, Dialled, owed_c, owed_t, plain_to_client, plain_to_target, refusal_owed}
 use Rattle.assoc_core.specs.Preludes.{IsConnect, address_at}
 use Rattle.assoc_core.proofs.ServedInput.{split-served, served_split, served-forms, other-split}
@@ -37,16 +37,16 @@ use Rattle.assoc_core.proofs.ServedInput.{split-served, served_split, served-for
 pub record DecidedForms (r : Record) (P : List Decision → Type 0) : Type 0 where
   pub nothing : r ≡ fresh r.number r.peer r.local r.since → P []
   pub opened' : (g : ℕ) (rule : Option ℕ) → Talking r → P (Decision.Opened g rule None ∷ [])
-  pub granted' : (g : ℕ) (rule : Option ℕ) (g' : ℕ) (facts : Facts) (verdict : Verdict) (refused : Option Cause) → Judged r facts refused
-      → P (Decision.Opened g rule None ∷ Decision.Granted g' facts verdict None refused ∷ [])
-  pub reached' : (g : ℕ) (rule : Option ℕ) (g' : ℕ) (facts : Facts) (verdict : Verdict) (to : Endpoint) (at : Option Endpoint) → Dialled r facts at
-      → P (Decision.Opened g rule None ∷ Decision.Granted g' facts verdict None None ∷ Decision.Reached to at ∷ [])
+  pub granted' : (g : ℕ) (rule : Option ℕ) (g' : ℕ) (facts : Facts) (verdict : Verdict) (route : Option ℕ) (refused : Option Cause) → Judged r facts refused
+      → P (Decision.Opened g rule None ∷ Decision.Granted g' facts verdict route refused ∷ [])
+  pub reached' : (g : ℕ) (rule : Option ℕ) (g' : ℕ) (facts : Facts) (verdict : Verdict) (route : Option ℕ) (to : Endpoint) (at : Option Endpoint) → Dialled r facts at
+      → P (Decision.Opened g rule None ∷ Decision.Granted g' facts verdict route None ∷ Decision.Reached to at ∷ [])
 
 pub decided-forms : (r : Record) (P : List Decision → Type 0) → DecidedForms r P → (ds : List Decision) → HasDecided r ds → P ds
 decided-forms r P f [] h = f.nothing h
 decided-forms r P f (Decision.Opened g rule None ∷ []) h = f.opened' g rule h
-decided-forms r P f (Decision.Opened g rule None ∷ Decision.Granted g' facts verdict None refused ∷ []) h = f.granted' g rule g' facts verdict refused h
-decided-forms r P f (Decision.Opened g rule None ∷ Decision.Granted g' facts verdict None None ∷ Decision.Reached to at ∷ []) h = f.reached' g rule g' facts verdict to at h
+decided-forms r P f (Decision.Opened g rule None ∷ Decision.Granted g' facts verdict route refused ∷ []) h = f.granted' g rule g' facts verdict route refused h
+decided-forms r P f (Decision.Opened g rule None ∷ Decision.Granted g' facts verdict route None ∷ Decision.Reached to at ∷ []) h = f.reached' g rule g' facts verdict route to at h
 decided-forms r P f _ h = absurd h
 
 -- ---- the login
@@ -155,8 +155,12 @@ owes-early o q = simp append-nil
 owes-late : (o s t : List ℕ) → (((o ++ []) ++ (s ++ [])) ++ t) ++ [] ≡ o ++ (s ++ (t ++ []))
 owes-late o s t = simp (append-nil, append_assoc)
 
+-- no proxy stands behind what was decided
+abbrev pub IsDirect : List User → List Config → List Decision → Type 0
+IsDirect users pubs ds = option_and_then (proxy_of_grant (socks users pubs)) (granted ds) ≡ None
+
 abbrev OwesClient : List User → List Config → Record → List Decision → Type 0
-OwesClient users pubs r ds = owed_to_client (socks users pubs) (record r { decisions = ds }) ≡ plain_to_client r.c r.t r.chosen (reached_at ds) r.cause
+OwesClient users pubs r ds = IsDirect users pubs ds → owed_to_client (socks users pubs) (record r { decisions = ds }) ≡ plain_to_client r.c r.t r.chosen (reached_at ds) r.cause
 
 early-owes : (users : List User) (pubs : List Config) (x : Record) → is_served_input x.c ≡ true → HasChosen x.c x.chosen
     → granted_replies_in (view (socks users pubs) x) x (granted x.decisions) ≡ [] → relay_began (socks users pubs) x ≡ false → proxy_of (socks users pubs) x ≡ None
@@ -177,22 +181,17 @@ early-owes users pubs x served chosen unanswered unbegan direct =
     refused : List ℕ
     refused = refusal_of_in (view (socks users pubs) x) x x.cause
 
--- a grant without a route goes by no proxy
-pub no-proxy : (config : Option Config) → proxy_in None config ≡ None
-no-proxy None = refl
-no-proxy (Some config) = refl
+abbrev pub passed_grant : ℕ → Facts → Verdict → Option ℕ → Grant
+passed_grant g facts verdict route = record { generation = g; facts = facts; verdict = verdict; route = route; refused = None }
 
-abbrev pub direct_grant : ℕ → Facts → Verdict → Grant
-direct_grant g facts verdict = record { generation = g; facts = facts; verdict = verdict; route = None; refused = None }
-
-late-owes : (users : List User) (pubs : List Config) (r : Record) (g : ℕ) (rule : Option ℕ) (g' : ℕ) (facts : Facts) (verdict : Verdict) (to at : Endpoint)
+late-owes : (users : List User) (pubs : List Config) (r : Record) (g : ℕ) (rule : Option ℕ) (g' : ℕ) (facts : Facts) (verdict : Verdict) (route : Option ℕ) (to at : Endpoint)
     → HasChosen r.c r.chosen → facts.command ≡ Command.Connect
-    → OwesClient users pubs r (Decision.Opened g rule None ∷ Decision.Granted g' facts verdict None None ∷ Decision.Reached to (Some at) ∷ [])
-late-owes users pubs r g rule g' facts verdict to at chosen connects =
+    → OwesClient users pubs r (Decision.Opened g rule None ∷ Decision.Granted g' facts verdict route None ∷ Decision.Reached to (Some at) ∷ [])
+late-owes users pubs r g rule g' facts verdict route to at chosen connects direct =
     ap (λ p. ((chosen_reply r.chosen ++ passed_reply p) ++ replies) ++ payload ++ refused) (no-login-passed (socks users pubs) x chosen)
     ∙ (ap (λ (p : Option Proxy).
-    ((chosen_reply r.chosen ++ []) ++ (by_way (way (Some at) (outcome_with r.t (direct_grant g' facts verdict) p)) ++ []))
-    ++ (if began_by facts.command (way (Some at) (outcome_with r.t (direct_grant g' facts verdict) p)) None then drop (replies_length (outcome_with r.t (direct_grant g' facts verdict) p)) r.t else [])
+    ((chosen_reply r.chosen ++ []) ++ (by_way (way (Some at) (outcome_with r.t (passed_grant g' facts verdict route) p)) ++ []))
+    ++ (if began_by facts.command (way (Some at) (outcome_with r.t (passed_grant g' facts verdict route) p)) None then drop (replies_length (outcome_with r.t (passed_grant g' facts verdict route) p)) r.t else [])
     ++ refused) direct
     ∙ (ap (λ (k : Command). ((chosen_reply r.chosen ++ []) ++ (success (version_of r.c) k at ++ [])) ++ (if began_by k (Some at) None then drop 0 r.t else []) ++ refused) connects
     ∙ (ap (λ z. (((chosen_reply r.chosen ++ []) ++ (success (version_of r.c) Command.Connect at ++ [])) ++ drop 0 r.t) ++ z)
@@ -200,7 +199,7 @@ late-owes users pubs r g rule g' facts verdict to at chosen connects =
     ∙ owes-late (chosen_reply r.chosen) (success (version_of r.c) Command.Connect at) r.t)))
   where
     x : Record
-    x = record r { decisions = Decision.Opened g rule None ∷ Decision.Granted g' facts verdict None None ∷ Decision.Reached to (Some at) ∷ [] }
+    x = record r { decisions = Decision.Opened g rule None ∷ Decision.Granted g' facts verdict route None ∷ Decision.Reached to (Some at) ∷ [] }
 
     replies : List ℕ
     replies = granted_replies_in (view (socks users pubs) x) x (granted x.decisions)
@@ -215,30 +214,27 @@ late-owes users pubs r g rule g' facts verdict to at chosen connects =
     by_way None = []
     by_way (Some e) = success (version_of r.c) facts.command e
 
-    direct : proxy_in None (numbered pubs g') ≡ None
-    direct = no-proxy (numbered pubs g')
-
     began : relay_began (socks users pubs) x ≡ true
-    began = ap (λ (p : Option Proxy). began_by facts.command (way (Some at) (outcome_with r.t (direct_grant g' facts verdict) p)) None) direct
+    began = ap (λ (p : Option Proxy). began_by facts.command (way (Some at) (outcome_with r.t (passed_grant g' facts verdict route) p)) None) direct
         ∙ ap (λ (k : Command). began_by k (Some at) None) connects
 
-reached-owes : (users : List User) (pubs : List Config) (r : Record) (g : ℕ) (rule : Option ℕ) (g' : ℕ) (facts : Facts) (verdict : Verdict) (to : Endpoint) (at : Option Endpoint)
+reached-owes : (users : List User) (pubs : List Config) (r : Record) (g : ℕ) (rule : Option ℕ) (g' : ℕ) (facts : Facts) (verdict : Verdict) (route : Option ℕ) (to : Endpoint) (at : Option Endpoint)
     → is_served_input r.c ≡ true → HasChosen r.c r.chosen → facts.command ≡ Command.Connect
-    → OwesClient users pubs r (Decision.Opened g rule None ∷ Decision.Granted g' facts verdict None None ∷ Decision.Reached to at ∷ [])
-reached-owes users pubs r g rule g' facts verdict to None served chosen connects =
-    early-owes users pubs (record r { decisions = Decision.Opened g rule None ∷ Decision.Granted g' facts verdict None None ∷ Decision.Reached to None ∷ [] }) served chosen
-    refl (ap (λ (k : Command). began_by k None None) connects) (no-proxy (numbered pubs g'))
-reached-owes users pubs r g rule g' facts verdict to (Some at) served chosen connects = late-owes users pubs r g rule g' facts verdict to at chosen connects
+    → OwesClient users pubs r (Decision.Opened g rule None ∷ Decision.Granted g' facts verdict route None ∷ Decision.Reached to at ∷ [])
+reached-owes users pubs r g rule g' facts verdict route to None served chosen connects direct =
+    early-owes users pubs (record r { decisions = Decision.Opened g rule None ∷ Decision.Granted g' facts verdict route None ∷ Decision.Reached to None ∷ [] }) served chosen
+    refl (ap (λ (k : Command). began_by k None None) connects) direct
+reached-owes users pubs r g rule g' facts verdict route to (Some at) served chosen connects direct = late-owes users pubs r g rule g' facts verdict route to at chosen connects direct
 
-pub plain-owes-client : (users : List User) (pubs : List Config) (r : Record) → IsPlainRecord r → owed_to_client (socks users pubs) r ≡ owed_c r
-plain-owes-client users pubs r h = decided-forms r (OwesClient users pubs r) (record {
-  nothing = λ fresh'. early-owes users pubs (record r { decisions = [] }) h.served h.chosen' refl refl refl;
-  opened' = λ g rule d. early-owes users pubs (record r { decisions = Decision.Opened g rule None ∷ [] }) h.served h.chosen' refl refl refl;
-  granted' = λ g rule g' facts verdict refused d.
-      early-owes users pubs (record r { decisions = Decision.Opened g rule None ∷ Decision.Granted g' facts verdict None refused ∷ [] }) h.served h.chosen'
-      refl (ap (λ (k : Command). began_by k None None) d.command) (no-proxy (numbered pubs g'));
-  reached' = λ g rule g' facts verdict to at d. reached-owes users pubs r g rule g' facts verdict to at h.served h.chosen' d.command;
-}) r.decisions h.decided
+pub plain-owes-client : (users : List User) (pubs : List Config) (r : Record) → IsPlainRecord r → proxy_of (socks users pubs) r ≡ None → owed_to_client (socks users pubs) r ≡ owed_c r
+plain-owes-client users pubs r h direct = decided-forms r (OwesClient users pubs r) (record {
+  nothing = λ fresh' direct'. early-owes users pubs (record r { decisions = [] }) h.served h.chosen' refl refl refl;
+  opened' = λ g rule d direct'. early-owes users pubs (record r { decisions = Decision.Opened g rule None ∷ [] }) h.served h.chosen' refl refl refl;
+  granted' = λ g rule g' facts verdict route refused d direct'.
+      early-owes users pubs (record r { decisions = Decision.Opened g rule None ∷ Decision.Granted g' facts verdict route refused ∷ [] }) h.served h.chosen'
+      refl (ap (λ (k : Command). began_by k None None) d.command) direct';
+  reached' = λ g rule g' facts verdict route to at d direct'. reached-owes users pubs r g rule g' facts verdict route to at h.served h.chosen' d.command direct';
+}) r.decisions h.decided direct
 
 -- ---- what is owed to the target
 
@@ -274,42 +270,42 @@ and-false true = refl
 and-false false = refl
 
 abbrev OwesTarget : List User → List Config → Record → List Decision → Type 0
-OwesTarget users pubs r ds = owed_to_target (socks users pubs) (record r { decisions = ds }) ≡ plain_to_target r.c (reached_at ds)
+OwesTarget users pubs r ds = IsDirect users pubs ds → owed_to_target (socks users pubs) (record r { decisions = ds }) ≡ plain_to_target r.c (reached_at ds)
 
-reached-owes-target : (users : List User) (pubs : List Config) (r : Record) (g : ℕ) (rule : Option ℕ) (g' : ℕ) (facts : Facts) (verdict : Verdict) (to : Endpoint) (at : Option Endpoint)
+reached-owes-target : (users : List User) (pubs : List Config) (r : Record) (g : ℕ) (rule : Option ℕ) (g' : ℕ) (facts : Facts) (verdict : Verdict) (route : Option ℕ) (to : Endpoint) (at : Option Endpoint)
     → is_served_input r.c ≡ true → HasChosen r.c r.chosen → Dialled r facts at
-    → OwesTarget users pubs r (Decision.Opened g rule None ∷ Decision.Granted g' facts verdict None None ∷ Decision.Reached to at ∷ [])
-reached-owes-target users pubs r g rule g' facts verdict to None served chosen d =
+    → OwesTarget users pubs r (Decision.Opened g rule None ∷ Decision.Granted g' facts verdict route None ∷ Decision.Reached to at ∷ [])
+reached-owes-target users pubs r g rule g' facts verdict route to None served chosen d direct =
     ap (λ (k : Command). elim (target_by None None k) [
       | true ↦ said_to_proxy (socks users pubs) x ++ (if relay_began (socks users pubs) x then client_payload (socks users pubs) x else [])
       | false ↦ []
     ]) d.command
   where
     x : Record
-    x = record r { decisions = Decision.Opened g rule None ∷ Decision.Granted g' facts verdict None None ∷ Decision.Reached to None ∷ [] }
-reached-owes-target users pubs r g rule g' facts verdict to (Some at) served chosen d =
-    ap (λ (p : Option Proxy). due p facts.command (length_of (split_of (socks users pubs) x))) (no-proxy (numbered pubs g'))
+    x = record r { decisions = Decision.Opened g rule None ∷ Decision.Granted g' facts verdict route None ∷ Decision.Reached to None ∷ [] }
+reached-owes-target users pubs r g rule g' facts verdict route to (Some at) served chosen d direct =
+    ap (λ (p : Option Proxy). due p facts.command (length_of (split_of (socks users pubs) x))) direct
     ∙ (ap (λ (k : Command). due None k (length_of (split_of (socks users pubs) x))) d.command
     ∙ ap (λ n. due None Command.Connect n) (connect-length users pubs x request.0 served chosen request.1))
   where
     x : Record
-    x = record r { decisions = Decision.Opened g rule None ∷ Decision.Granted g' facts verdict None None ∷ Decision.Reached to (Some at) ∷ [] }
+    x = record r { decisions = Decision.Opened g rule None ∷ Decision.Granted g' facts verdict route None ∷ Decision.Reached to (Some at) ∷ [] }
 
     request : (to : Endpoint) × IsConnect r.c to
     request = whole-connect r.c served d.whole d.version
 
     due : Option Proxy → Command → ℕ → List ℕ
     due p k n = elim (target_by (Some at) None k) [
-      | true ↦ said_with r.t (direct_grant g' facts verdict) p ++ (if began_by k (way (Some at) (outcome_with r.t (direct_grant g' facts verdict) p)) None then drop n r.c else [])
+      | true ↦ said_with r.t (passed_grant g' facts verdict route) p ++ (if began_by k (way (Some at) (outcome_with r.t (passed_grant g' facts verdict route) p)) None then drop n r.c else [])
       | false ↦ []
     ]
 
-pub plain-owes-target : (users : List User) (pubs : List Config) (r : Record) → IsPlainRecord r → owed_to_target (socks users pubs) r ≡ owed_t r
-plain-owes-target users pubs r h = decided-forms r (OwesTarget users pubs r) (record {
-  nothing = λ fresh'. refl;
-  opened' = λ g rule d. refl;
-  granted' = λ g rule g' facts verdict refused d.
-      let x : Record = record r { decisions = Decision.Opened g rule None ∷ Decision.Granted g' facts verdict None refused ∷ [] } in
+pub plain-owes-target : (users : List User) (pubs : List Config) (r : Record) → IsPlainRecord r → proxy_of (socks users pubs) r ≡ None → owed_to_target (socks users pubs) r ≡ owed_t r
+plain-owes-target users pubs r h direct = decided-forms r (OwesTarget users pubs r) (record {
+  nothing = λ fresh' direct'. refl;
+  opened' = λ g rule d direct'. refl;
+  granted' = λ g rule g' facts verdict route refused d direct'.
+      let x : Record = record r { decisions = Decision.Opened g rule None ∷ Decision.Granted g' facts verdict route refused ∷ [] } in
       ap (λ (k : Command). elim (is_none refused && target_by None None k) [
         | true ↦ said_to_proxy (socks users pubs) x ++ (if relay_began (socks users pubs) x then client_payload (socks users pubs) x else [])
         | false ↦ []
@@ -318,8 +314,8 @@ plain-owes-target users pubs r h = decided-forms r (OwesTarget users pubs r) (re
         | true ↦ said_to_proxy (socks users pubs) x ++ (if relay_began (socks users pubs) x then client_payload (socks users pubs) x else [])
         | false ↦ []
       ]) (and-false (is_none refused));
-  reached' = λ g rule g' facts verdict to at d. reached-owes-target users pubs r g rule g' facts verdict to at h.served h.chosen' d;
-}) r.decisions h.decided
+  reached' = λ g rule g' facts verdict route to at d direct'. reached-owes-target users pubs r g rule g' facts verdict route to at h.served h.chosen' d direct';
+}) r.decisions h.decided direct
 
 -- ---- the phase
 
@@ -353,30 +349,30 @@ judging-phase users pubs r g rule to undone uncaused served chosen connects =
     x : Record
     x = record r { decisions = Decision.Opened g rule None ∷ [] }
 
-pub reach-phase : (users : List User) (pubs : List Config) (r : Record) (g : ℕ) (rule : Option ℕ) (g' : ℕ) (facts : Facts) (verdict : Verdict)
+pub reach-phase : (users : List User) (pubs : List Config) (r : Record) (g : ℕ) (rule : Option ℕ) (g' : ℕ) (facts : Facts) (verdict : Verdict) (route : Option ℕ)
     → r.done ≡ false → r.cause ≡ None → is_served_input r.c ≡ true → HasChosen r.c r.chosen → is_whole_input r.c ≡ true → version_of r.c ≡ Some Version.V5
-    → phase (socks users pubs) (record r { decisions = Decision.Opened g rule None ∷ Decision.Granted g' facts verdict None None ∷ [] }) ≡ Phase.Reach (direct_grant g' facts verdict)
-reach-phase users pubs r g rule g' facts verdict undone uncaused served chosen whole version =
+    → phase (socks users pubs) (record r { decisions = Decision.Opened g rule None ∷ Decision.Granted g' facts verdict route None ∷ [] }) ≡ Phase.Reach (passed_grant g' facts verdict route)
+reach-phase users pubs r g rule g' facts verdict route undone uncaused served chosen whole version =
     going-phase (socks users pubs) x undone uncaused
     ∙ ap (phase_split_in (view (socks users pubs) x) x) (plain-split users pubs x served chosen ∙ connect-split r.c request.0 request.1)
   where
     x : Record
-    x = record r { decisions = Decision.Opened g rule None ∷ Decision.Granted g' facts verdict None None ∷ [] }
+    x = record r { decisions = Decision.Opened g rule None ∷ Decision.Granted g' facts verdict route None ∷ [] }
 
     request : (to : Endpoint) × IsConnect r.c to
     request = whole-connect r.c served whole version
 
-pub relay-phase : (users : List User) (pubs : List Config) (r : Record) (g : ℕ) (rule : Option ℕ) (g' : ℕ) (facts : Facts) (verdict : Verdict) (to at : Endpoint)
-    → r.done ≡ false → r.cause ≡ None → is_served_input r.c ≡ true → HasChosen r.c r.chosen → Dialled r facts (Some at)
-    → phase (socks users pubs) (record r { decisions = Decision.Opened g rule None ∷ Decision.Granted g' facts verdict None None ∷ Decision.Reached to (Some at) ∷ [] }) ≡ Phase.Relay
-relay-phase users pubs r g rule g' facts verdict to at undone uncaused served chosen d =
+pub relay-phase : (users : List User) (pubs : List Config) (r : Record) (g : ℕ) (rule : Option ℕ) (g' : ℕ) (facts : Facts) (verdict : Verdict) (route : Option ℕ) (to at : Endpoint)
+    → r.done ≡ false → r.cause ≡ None → is_served_input r.c ≡ true → HasChosen r.c r.chosen → Dialled r facts (Some at) → proxy_in route (numbered pubs g') ≡ None
+    → phase (socks users pubs) (record r { decisions = Decision.Opened g rule None ∷ Decision.Granted g' facts verdict route None ∷ Decision.Reached to (Some at) ∷ [] }) ≡ Phase.Relay
+relay-phase users pubs r g rule g' facts verdict route to at undone uncaused served chosen d direct =
     going-phase (socks users pubs) x undone uncaused
     ∙ (ap (phase_split_in (view (socks users pubs) x) x) (plain-split users pubs x served chosen ∙ connect-split r.c request.0 request.1)
-    ∙ (ap (phase_by_command (view (socks users pubs) x) x (direct_grant g' facts verdict)) d.command
-    ∙ ap (λ (p : Option Proxy). phase_connect (outcome_with r.t (direct_grant g' facts verdict) p)) (no-proxy (numbered pubs g'))))
+    ∙ (ap (phase_by_command (view (socks users pubs) x) x (passed_grant g' facts verdict route)) d.command
+    ∙ ap (λ (p : Option Proxy). phase_connect (outcome_with r.t (passed_grant g' facts verdict route) p)) direct))
   where
     x : Record
-    x = record r { decisions = Decision.Opened g rule None ∷ Decision.Granted g' facts verdict None None ∷ Decision.Reached to (Some at) ∷ [] }
+    x = record r { decisions = Decision.Opened g rule None ∷ Decision.Granted g' facts verdict route None ∷ Decision.Reached to (Some at) ∷ [] }
 
     request : (to : Endpoint) × IsConnect r.c to
     request = whole-connect r.c served d.whole d.version

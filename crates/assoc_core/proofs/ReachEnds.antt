@@ -15,9 +15,10 @@ use Rattle.socks_machine.specs.declared.lines.Line.{Line}
 use Rattle.socks_machine.specs.declared.record.Decision.{Decision}
 use Rattle.socks_machine.specs.declared.record.Record.{Record}
 use Rattle.socks_machine.specs.declared.world.Object.{Object}
+use Rattle.socks_machine.specs.Basis.{Basis}
 use Rattle.socks_machine.specs.Decisions.{granted, reached_at}
 use Rattle.socks_machine.specs.Settle.{first_cause}
-use Rattle.socks_machine.specs.Socks.{chosen_reply}
+use Rattle.socks_machine.specs.Socks.{socks, chosen_reply}
 use Rattle.assoc_core.specs.declared.assoc.Assoc.{Assoc}
 use Rattle.assoc_core.specs.declared.assoc.Next.{Next}
 use Rattle.assoc_core.specs.declared.send.Sent.{Sent}
@@ -37,12 +38,12 @@ use Rattle.assoc_core.proofs.TalkTurns.{with_state}
 -- ---- from the turn with the explicit record
 
 pub turns-dialled : {L : Type 0} (told : L → Told) (counts : L → Counts) (users : List User) (pubs : List Config) (generation : ℕ) (config : Config) (most : ℕ) (h : List Line) (marks : List StopBy)
-    (net net' : NetTold) (now : ℕ) (a b z : Assoc L) (o : DialOutcome) (k : HasDialled told net net' now a b o) (y_c rest_c rest_t : List ℕ) (full_c full_t : Bool) (fault : Option Object) (unwritten : Bool)
+    (net net' : NetTold) (now : ℕ) (a b z : Assoc L) (o : DialOutcome) (k : HasDialled told (socks users pubs) net net' now a b o) (y_c rest_c rest_t : List ℕ) (full_c full_t : Bool) (fault : Option Object) (unwritten : Bool)
     → Reaches told counts (dialling_of told users pubs generation config most h marks net net' now a b o k) net net' a z o y_c rest_c rest_t full_c full_t fault unwritten
     → Turns told counts (SameDesk h marks) (context users pubs generation config most h marks) now net net' a (Next.Again z)
 turns-dialled told counts users pubs generation config most h marks net net' now a b z o k y_c rest_c rest_t full_c full_t fault unwritten v =
     subst (λ (r : Record). Turns told counts (SameDesk h marks) (context users pubs generation config most h marks) now net net' (with_state a r) (Next.Again z)) (sym is)
-    (turns-reached told counts d net net' a z o y_c rest_c rest_t full_c full_t fault unwritten (subst (λ (r : Record). Stands told (with_state a r)) is k.stands) v)
+    (turns-reached told counts d net net' a z o y_c rest_c rest_t full_c full_t fault unwritten (subst (λ (r : Record). Stands told (socks users pubs) (with_state a r)) is k.stands) v)
   where
     d : Dialling
     d = dialling_of told users pubs generation config most h marks net net' now a b o k
@@ -81,7 +82,7 @@ has-failed false h = cc
 
 pub refuses-turn : {L : Type 0} (told : L → Told) (counts : L → Counts) (users : List User) (pubs : List Config) (generation : ℕ) (config : Config) (most : ℕ) (h : List Line) (marks : List StopBy)
     (net net' : NetTold) (now : ℕ) (a b : Assoc L) (o : DialOutcome) (cause : Cause) (first : Option Cause) (client : L) (s : Record) (last : Option Cause) (full failed : Bool) (outcome : Sent)
-    → HasDialled told net net' now a b o → cause_of o ≡ Some cause
+    → HasDialled told (socks users pubs) net net' now a b o → cause_of o ≡ Some cause
     → first ≡ first_cause (Some cause) (b.state).cause
     → s ≡ (let r = b.state in record r { cause = first; sent_c = s.sent_c })
     → Sends (told b.client) (told client) (counts b.client) (counts client) (b.state).sent_c s.sent_c (drop (length (b.state).sent_c) (owed_c (let r = b.state in record r { cause = first }))) outcome
@@ -170,7 +171,7 @@ some-clash x e = cc
 
 pub greets-turn : {L : Type 0} (told : L → Told) (counts : L → Counts) (users : List User) (pubs : List Config) (generation : ℕ) (config : Config) (most : ℕ) (h : List Line) (marks : List StopBy)
     (net net' : NetTold) (now : ℕ) (a b z : Assoc L) (local : Endpoint) (new link : L) (y_c rest_c rest_t : List ℕ) (full_c full_t : Bool) (fault : Option Object) (unwritten : Bool)
-    → HasDialled told net net' now a b (DialOutcome.CameUp local) → IsNewLink (told new) net → Greets told counts b z new link y_c rest_c rest_t full_c full_t fault unwritten
+    → HasDialled told (socks users pubs) net net' now a b (DialOutcome.CameUp local) → IsNewLink (told new) net → Greets told counts b z new link y_c rest_c rest_t full_c full_t fault unwritten
     → Turns told counts (SameDesk h marks) (context users pubs generation config most h marks) now net net' a (Next.Again z)
 greets-turn {L = L} told counts users pubs generation config most h marks net net' now a b z local new link y_c rest_c rest_t full_c full_t fault unwritten k v w =
     turns-dialled told counts users pubs generation config most h marks net net' now a b z o k y_c rest_c rest_t full_c full_t fault unwritten (record {
@@ -296,7 +297,7 @@ pub record PayloadEnds (told : Told) (rest : List ℕ) (full failed : Bool) : Ty
 
 pub sends-payload : {L : Type 0} (told : L → Told) (counts : L → Counts) (users : List User) (pubs : List Config) (generation : ℕ) (config : Config) (most : ℕ) (h : List Line) (marks : List StopBy)
     (net net' : NetTold) (now : ℕ) (a b z : Assoc L) (local : Endpoint) (new link : L) (s : Record) (last : Option Cause) (full full_t failed : Bool) (outcome : Sent)
-    → HasDialled told net net' now a b (DialOutcome.CameUp local) → IsNewLink (told new) net → HasGreeted told counts b z full
+    → HasDialled told (socks users pubs) net net' now a b (DialOutcome.CameUp local) → IsNewLink (told new) net → HasGreeted told counts b z full
     → s ≡ (let r = z.state in record r { sent_t = s.sent_t })
     → Sends (told new) (told link) (counts new) (counts link) (z.state).sent_t s.sent_t (drop (length (z.state).sent_t) (drop 13 (z.state).c)) outcome
     → ((rest : List ℕ) → SendEnds (told link) (counts new) (counts link) rest outcome → PayloadEnds (told link) rest full_t failed)
@@ -343,8 +344,8 @@ sends-payload {L = L} told counts users pubs generation config most h marks net 
     clash e1 e2 = let e3 : (told link).unfailing ≡ (told new).unfailing = ap (λ (w : Told). w.unfailing) sends'.told' in cc
 
 -- nothing was written to a target that has just come up
-pub unsent-behind : {L : Type 0} (told : L → Told) (net net' : NetTold) (now : ℕ) (a b : Assoc L) (local : Endpoint) → HasDialled told net net' now a b (DialOutcome.CameUp local) → (b.state).sent_t ≡ []
-unsent-behind told net net' now a b local k = ap (λ (r : Record). r.sent_t) k.state' ∙ ((judged-in told net net' now a b (DialOutcome.CameUp local) k).untargeted).sent_t
+pub unsent-behind : {L : Type 0} (told : L → Told) (basis : Basis) (net net' : NetTold) (now : ℕ) (a b : Assoc L) (local : Endpoint) → HasDialled told basis net net' now a b (DialOutcome.CameUp local) → (b.state).sent_t ≡ []
+unsent-behind told basis net net' now a b local k = ap (λ (r : Record). r.sent_t) k.state' ∙ ((judged-in told basis net net' now a b (DialOutcome.CameUp local) k).untargeted).sent_t
 
 -- what follows from a fact of each value follows of a result
 pub if-ok-more : {A E : Type 0} (r : Result A E) (P Q : A → Type 0) → ((x : A) → P x → Q x) → IfOk r P → IfOk r Q
@@ -353,14 +354,14 @@ if-ok-more (Err e) P Q f h = h
 
 -- ---- the dial
 
-granted-facts : (ds : List Decision) (to : Endpoint) (g : ℕ) (rule : Option ℕ) (g' : ℕ) (facts : Facts) (verdict : Verdict)
-    → Some to ≡ option_map (λ x. x.facts.to) (granted ds) → ds ≡ Decision.Opened g rule None ∷ Decision.Granted g' facts verdict None None ∷ [] → to ≡ facts.to
-granted-facts ds to g rule g' facts verdict e is = let k : Some to ≡ Some facts.to = e ∙ ap (λ (z : List Decision). option_map (λ x. x.facts.to) (granted z)) is in cc
+granted-facts : (ds : List Decision) (to : Endpoint) (g : ℕ) (rule : Option ℕ) (g' : ℕ) (facts : Facts) (verdict : Verdict) (route : Option ℕ)
+    → Some to ≡ option_map (λ x. x.facts.to) (granted ds) → ds ≡ Decision.Opened g rule None ∷ Decision.Granted g' facts verdict route None ∷ [] → to ≡ facts.to
+granted-facts ds to g rule g' facts verdict route e is = let k : Some to ≡ Some facts.to = e ∙ ap (λ (z : List Decision). option_map (λ x. x.facts.to) (granted z)) is in cc
 
 -- behind a grant there is a destination
-pub granted-some : (ds : List Decision) (g : ℕ) (rule : Option ℕ) (g' : ℕ) (facts : Facts) (verdict : Verdict) (to : Option Endpoint)
-    → to ≡ option_map (λ x. x.facts.to) (granted ds) → to ≡ None → ds ≡ Decision.Opened g rule None ∷ Decision.Granted g' facts verdict None None ∷ [] → ⊥
-granted-some ds g rule g' facts verdict to e none is = let k : None ≡ Some facts.to = sym none ∙ (e ∙ ap (λ (z : List Decision). option_map (λ x. x.facts.to) (granted z)) is) in cc
+pub granted-some : (ds : List Decision) (g : ℕ) (rule : Option ℕ) (g' : ℕ) (facts : Facts) (verdict : Verdict) (route : Option ℕ) (to : Option Endpoint)
+    → to ≡ option_map (λ x. x.facts.to) (granted ds) → to ≡ None → ds ≡ Decision.Opened g rule None ∷ Decision.Granted g' facts verdict route None ∷ [] → ⊥
+granted-some ds g rule g' facts verdict route to e none is = let k : None ≡ Some facts.to = sym none ∙ (e ∙ ap (λ (z : List Decision). option_map (λ x. x.facts.to) (granted z)) is) in cc
 
 -- what the code knows of a dial
 pub record Dials {L : Type 0} (told : L → Told) (net net' : NetTold) (now : ℕ) (a : Assoc L) (to : Endpoint) (pushed : List Decision) (outcome : DialOutcome) : Type 0 where
@@ -370,17 +371,18 @@ pub record Dials {L : Type 0} (told : L → Told) (net net' : NetTold) (now : �
   pub planned : (plan : Plan) → net.plan ≡ Some plan → outcome ≡ plan.outcome
   pub kept : at_of outcome ≡ None → net'.plan ≡ net.plan
 
-pub dialled-down : {L : Type 0} (told : L → Told) (net net' : NetTold) (now : ℕ) (a : Assoc L) (to : Endpoint) (pushed : List Decision) (o : DialOutcome) (g g' : ℕ) (rule : Option ℕ) (facts : Facts) (verdict : Verdict)
-    → Dials told net net' now a to pushed o → at_of o ≡ None → Stands told a → (a.state).since ≡ now → (a.state).cause ≡ None
-    → (a.state).decisions ≡ Decision.Opened g rule None ∷ Decision.Granted g' facts verdict None None ∷ []
-    → HasDialled told net net' now a (record { state = (let r = a.state in record r { decisions = pushed }); client = a.client; target = a.target }) o
-dialled-down told net net' now a to pushed o g g' rule facts verdict k none standing since uncaused is = record {
+pub dialled-down : {L : Type 0} (told : L → Told) (basis : Basis) (net net' : NetTold) (now : ℕ) (a : Assoc L) (to : Endpoint) (pushed : List Decision) (o : DialOutcome) (g g' : ℕ) (rule : Option ℕ) (facts : Facts) (verdict : Verdict) (route : Option ℕ)
+    → Dials told net net' now a to pushed o → at_of o ≡ None → Stands told basis a → (a.state).since ≡ now → (a.state).cause ≡ None
+    → (a.state).decisions ≡ Decision.Opened g rule None ∷ Decision.Granted g' facts verdict route None ∷ []
+    → HasDialled told basis net net' now a (record { state = (let r = a.state in record r { decisions = pushed }); client = a.client; target = a.target }) o
+dialled-down told basis net net' now a to pushed o g g' rule facts verdict route k none standing since uncaused is = record {
   stands = standing;
   g = g;
   rule = rule;
   g' = g';
   facts = facts;
   verdict = verdict;
+  route = route;
   granted' = is;
   uncaused = uncaused;
   since = since;
@@ -396,19 +398,20 @@ dialled-down told net net' now a to pushed o g g' rule facts verdict k none stan
 }
   where
     to-is : to ≡ facts.to
-    to-is = granted-facts (a.state).decisions to g rule g' facts verdict k.to' is
+    to-is = granted-facts (a.state).decisions to g rule g' facts verdict route k.to' is
 
-pub dialled-up : {L : Type 0} (told : L → Told) (net net' : NetTold) (now : ℕ) (a : Assoc L) (to local : Endpoint) (pushed after : List Decision) (g g' : ℕ) (rule : Option ℕ) (facts : Facts) (verdict : Verdict)
-    → Dials told net net' now a to pushed (DialOutcome.CameUp local) → after ≡ slice_set pushed (length pushed - 1) (Decision.Reached to (Some local)) → Stands told a → (a.state).since ≡ now → (a.state).cause ≡ None
-    → (a.state).decisions ≡ Decision.Opened g rule None ∷ Decision.Granted g' facts verdict None None ∷ []
-    → HasDialled told net net' now a (record { state = (let r = a.state in record r { decisions = after; since = now }); client = a.client; target = a.target }) (DialOutcome.CameUp local)
-dialled-up told net net' now a to local pushed after g g' rule facts verdict k set' standing since uncaused is = record {
+pub dialled-up : {L : Type 0} (told : L → Told) (basis : Basis) (net net' : NetTold) (now : ℕ) (a : Assoc L) (to local : Endpoint) (pushed after : List Decision) (g g' : ℕ) (rule : Option ℕ) (facts : Facts) (verdict : Verdict) (route : Option ℕ)
+    → Dials told net net' now a to pushed (DialOutcome.CameUp local) → after ≡ slice_set pushed (length pushed - 1) (Decision.Reached to (Some local)) → Stands told basis a → (a.state).since ≡ now → (a.state).cause ≡ None
+    → (a.state).decisions ≡ Decision.Opened g rule None ∷ Decision.Granted g' facts verdict route None ∷ []
+    → HasDialled told basis net net' now a (record { state = (let r = a.state in record r { decisions = after; since = now }); client = a.client; target = a.target }) (DialOutcome.CameUp local)
+dialled-up told basis net net' now a to local pushed after g g' rule facts verdict route k set' standing since uncaused is = record {
   stands = standing;
   g = g;
   rule = rule;
   g' = g';
   facts = facts;
   verdict = verdict;
+  route = route;
   granted' = is;
   uncaused = uncaused;
   since = since;
@@ -424,4 +427,4 @@ dialled-up told net net' now a to local pushed after g g' rule facts verdict k s
 }
   where
     to-is : to ≡ facts.to
-    to-is = granted-facts (a.state).decisions to g rule g' facts verdict k.to' is
+    to-is = granted-facts (a.state).decisions to g rule g' facts verdict route k.to' is

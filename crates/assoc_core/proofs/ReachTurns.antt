@@ -16,18 +16,19 @@ use Rattle.socks_machine.specs.declared.lines.Line.{Line}
 use Rattle.socks_machine.specs.declared.record.Decision.{Decision}
 use Rattle.socks_machine.specs.declared.record.Record.{Record}
 use Rattle.socks_machine.specs.declared.world.Object.{Object}
+use Rattle.socks_machine.specs.Basis.{Basis}
 use Rattle.socks_machine.specs.Decisions.{Grant, reached_at}
 use Rattle.socks_machine.specs.Owed.{owed_to_client, owed_to_target}
 use Rattle.socks_machine.specs.Phase.{Phase}
 use Rattle.socks_machine.specs.Settle.{is_nothing}
-use Rattle.socks_machine.specs.Socks.{chosen_reply}
+use Rattle.socks_machine.specs.Socks.{socks, chosen_reply}
 use Rattle.socks_machine.specs.Taking.{reads_client, reads_target}
 use Rattle.socks_machine.specs.Turn.{has_pending, fault_fits, with_fault}
 use Rattle.assoc_core.specs.declared.assoc.Assoc.{Assoc}
 use Rattle.assoc_core.specs.declared.assoc.Next.{Next}
 use Rattle.assoc_core.specs.Plain.{IsPlainRecord, HasDecided, Judged, owed_c, success_reply, refusal_owed, plain_to_target, payload_to_client}
 use Rattle.assoc_core.specs.Reaching.{HasDialled, SameDesk, at_of, cause_of}
-use Rattle.assoc_core.specs.Stands.{Stands, Holds, HoldsTarget, EndsBehind, GivesFirst}
+use Rattle.assoc_core.specs.Stands.{GoesDirect, Stands, Holds, HoldsTarget, EndsBehind, GivesFirst}
 use Rattle.assoc_core.specs.Turns.{Turns, StopsReading, SameOutside, SameTarget, DialsAre, PlanStays, IsOuterOf, IsUnfailing, IsFull, IsThereAnd, links, outer_of}
 use Rattle.assoc_core.proofs.Answering.{still-left}
 use Rattle.assoc_core.proofs.PlainRecords.{plain-owes-client, plain-owes-target}
@@ -73,11 +74,11 @@ plain-with d o fault = plain-behind d (at_of o) d.sent [] (with_object fault (ca
     (first-due d _) (plain_to_target d.c (at_of o), refl) (payload-none (at_of o))
 
 owes-c : (d : Dialling) (o : DialOutcome) (fault : Option Object) → owed_to_client (basis_of d) (behind d (at_of o) d.sent [] (with_object fault (cause_of o))) ≡ due_c d o
-owes-c d o fault = plain-owes-client d.users d.pubs (behind d (at_of o) d.sent [] (with_object fault (cause_of o))) (plain-with d o fault)
+owes-c d o fault = plain-owes-client d.users d.pubs (behind d (at_of o) d.sent [] (with_object fault (cause_of o))) (plain-with d o fault) d.direct
     ∙ (ap (λ z. chosen_reply d.chosen ++ (success_reply d.c (at_of o) ++ (z ++ refusal_owed d.c (at_of o) (with_object fault (cause_of o))))) (payload-none (at_of o)) ∙ due-with d o fault)
 
 owes-t : (d : Dialling) (o : DialOutcome) (fault : Option Object) → owed_to_target (basis_of d) (behind d (at_of o) d.sent [] (with_object fault (cause_of o))) ≡ plain_to_target d.c (at_of o)
-owes-t d o fault = plain-owes-target d.users d.pubs (behind d (at_of o) d.sent [] (with_object fault (cause_of o))) (plain-with d o fault)
+owes-t d o fault = plain-owes-target d.users d.pubs (behind d (at_of o) d.sent [] (with_object fault (cause_of o))) (plain-with d o fault) d.direct
 
 -- ---- the writes
 
@@ -149,15 +150,15 @@ sends-as d o y_c rest_c sent_c rest_t sent_t fault unwritten k = record {
 
 -- ---- from what was dialled
 
-pub judged-of : (r : Record) (ds : List Decision) (g : ℕ) (rule : Option ℕ) (g' : ℕ) (facts : Facts) (verdict : Verdict)
-    → ds ≡ Decision.Opened g rule None ∷ Decision.Granted g' facts verdict None None ∷ [] → HasDecided r ds → Judged r facts None
-judged-of r ds g rule g' facts verdict is h = subst (HasDecided r) is h
+pub judged-of : (r : Record) (ds : List Decision) (g : ℕ) (rule : Option ℕ) (g' : ℕ) (facts : Facts) (verdict : Verdict) (route : Option ℕ)
+    → ds ≡ Decision.Opened g rule None ∷ Decision.Granted g' facts verdict route None ∷ [] → HasDecided r ds → Judged r facts None
+judged-of r ds g rule g' facts verdict route is h = subst (HasDecided r) is h
 
-pub judged-in : {L : Type 0} (told : L → Told) (net net' : NetTold) (now : ℕ) (a b : Assoc L) (o : DialOutcome) (k : HasDialled told net net' now a b o) → Judged a.state k.facts None
-judged-in told net net' now a b o k = judged-of a.state (a.state).decisions k.g k.rule k.g' k.facts k.verdict k.granted' ((k.stands).plain).decided
+pub judged-in : {L : Type 0} (told : L → Told) (basis : Basis) (net net' : NetTold) (now : ℕ) (a b : Assoc L) (o : DialOutcome) (k : HasDialled told basis net net' now a b o) → Judged a.state k.facts None
+judged-in told basis net net' now a b o k = judged-of a.state (a.state).decisions k.g k.rule k.g' k.facts k.verdict k.route k.granted' ((k.stands).plain).decided
 
 abbrev pub dialling_of : {L : Type 0} (told : L → Told) (users : List User) (pubs : List Config) (generation : ℕ) (config : Config) (most : ℕ) (h : List Line) (marks : List StopBy)
-    (net net' : NetTold) (now : ℕ) (a b : Assoc L) (o : DialOutcome) → HasDialled told net net' now a b o → Dialling
+    (net net' : NetTold) (now : ℕ) (a b : Assoc L) (o : DialOutcome) → HasDialled told (socks users pubs) net net' now a b o → Dialling
 dialling_of told users pubs generation config most h marks net net' now a b o k = record {
   users = users;
   pubs = pubs;
@@ -172,19 +173,25 @@ dialling_of told users pubs generation config most h marks net net' now a b o k 
   g' = k.g';
   asked = k.facts;
   verdict = k.verdict;
+  route = k.route;
   c = (a.state).c;
   sent = (a.state).sent_c;
   chosen = (a.state).chosen;
   served = ((k.stands).plain).served;
   chosen' = ((k.stands).plain).chosen';
-  whole = (judged-in told net net' now a b o k).whole;
-  version = (judged-in told net net' now a b o k).version;
+  whole = (judged-in told (socks users pubs) net net' now a b o k).whole;
+  version = (judged-in told (socks users pubs) net net' now a b o k).version;
   sent' = subst (λ (ds : List Decision). IsPrefix (a.state).sent_c (owed_c (let r = a.state in record r { decisions = ds; cause = None }))) k.granted'
       (subst (λ (o : Option Cause). IsPrefix (a.state).sent_c (owed_c (let r = a.state in record r { cause = o }))) k.uncaused ((k.stands).plain).sent_c);
+  direct = direct'.direct;
+  known = direct'.known;
 }
+  where
+    direct' : GoesDirect (socks users pubs) (Decision.Opened k.g k.rule None ∷ Decision.Granted k.g' k.facts k.verdict k.route None ∷ [])
+    direct' = subst (GoesDirect (socks users pubs)) k.granted' (k.stands).direct
 
 pub before-is : {L : Type 0} (told : L → Told) (users : List User) (pubs : List Config) (generation : ℕ) (config : Config) (most : ℕ) (h : List Line) (marks : List StopBy)
-    (net net' : NetTold) (now : ℕ) (a b : Assoc L) (o : DialOutcome) (k : HasDialled told net net' now a b o)
+    (net net' : NetTold) (now : ℕ) (a b : Assoc L) (o : DialOutcome) (k : HasDialled told (socks users pubs) net net' now a b o)
     → a.state ≡ before (dialling_of told users pubs generation config most h marks net net' now a b o k)
 before-is told users pubs generation config most h marks net net' now a b o k = λ i. record {
   number = (a.state).number;
@@ -200,7 +207,7 @@ before-is told users pubs generation config most h marks net net' now a b o k = 
   shut_c = (j.untargeted).shut_c i;
   shut_t = (j.untargeted).shut_t i;
   chosen = (a.state).chosen;
-  decisions = (k.granted' ∙ (λ n. Decision.Opened k.g k.rule None ∷ Decision.Granted k.g' (let f = k.facts in record f { command = j.command n }) k.verdict None None ∷ [])) i;
+  decisions = (k.granted' ∙ (λ n. Decision.Opened k.g k.rule None ∷ Decision.Granted k.g' (let f = k.facts in record f { command = j.command n }) k.verdict k.route None ∷ [])) i;
   grams = ((k.stands).plain).grams i;
   sent_u = ((k.stands).plain).sent_u i;
   cause = k.uncaused i;
@@ -209,10 +216,10 @@ before-is told users pubs generation config most h marks net net' now a b o k = 
 }
   where
     j : Judged a.state k.facts None
-    j = judged-in told net net' now a b o k
+    j = judged-in told (socks users pubs) net net' now a b o k
 
 pub behind-is : {L : Type 0} (told : L → Told) (users : List User) (pubs : List Config) (generation : ℕ) (config : Config) (most : ℕ) (h : List Line) (marks : List StopBy)
-    (net net' : NetTold) (now : ℕ) (a b : Assoc L) (o : DialOutcome) (k : HasDialled told net net' now a b o)
+    (net net' : NetTold) (now : ℕ) (a b : Assoc L) (o : DialOutcome) (k : HasDialled told (socks users pubs) net net' now a b o)
     → b.state ≡ behind (dialling_of told users pubs generation config most h marks net net' now a b o k) (at_of o) (a.state).sent_c [] None
 behind-is told users pubs generation config most h marks net net' now a b o k =
     k.state' ∙ ap (λ (r : Record). let z : Record = record r { since = now; decisions = r.decisions ++ Decision.Reached (k.facts).to (at_of o) ∷ [] } in z)
@@ -304,7 +311,7 @@ short-of sent rest owed e h = omega (arith, length-append sent rest, ap (λ (z :
 
 pub turns-reached : {L : Type 0} (told : L → Told) (counts : L → Counts) (d : Dialling) (net net' : NetTold) (a z : Assoc L) (o : DialOutcome)
     (y_c rest_c rest_t : List ℕ) (full_c full_t : Bool) (fault : Option Object) (unwritten : Bool)
-    → Stands told (with_state a (before d)) → Reaches told counts d net net' a z o y_c rest_c rest_t full_c full_t fault unwritten
+    → Stands told (basis_of d) (with_state a (before d)) → Reaches told counts d net net' a z o y_c rest_c rest_t full_c full_t fault unwritten
     → Turns told counts (SameDesk d.h d.marks) (context_of d) (d.party).since net net' (with_state a (before d)) (Next.Again z)
 turns-reached told counts d net net' a z o y_c rest_c rest_t full_c full_t fault unwritten k h = record {
   acts = reach_acts o (length y_c) (length (z.state).sent_t) full_c full_t fault unwritten;
@@ -314,6 +321,7 @@ turns-reached told counts d net net' a z o y_c rest_c rest_t full_c full_t fault
   state' = h.state';
   desk = (refl, refl);
   goes_on = subst IsPlainRecord (sym h.state') plain;
+  direct = record { direct = d.direct; known = d.known };
   c = sym (append-nil d.c);
   t = refl;
   ends_c = λ e. absurd (cc);

@@ -1,5 +1,5 @@
 -- The turn in which a granted destination is dialled.
-use Rattle.std.proofs.Common.{◌≡◌, ℕ, Bool, true, false, ◌&&◌, ◌||◌, not, if◌then◌else◌, Option, Some, None, List, [], ◌∷◌, ◌++◌, length, refl, sym, ap, subst, ◌∙◌, inl, inr, is_some}
+use Rattle.std.proofs.Common.{◌≡◌, ℕ, ◌≤◌, Bool, true, false, ◌&&◌, ◌||◌, not, if◌then◌else◌, Option, Some, None, List, [], ◌∷◌, ◌++◌, length, refl, sym, ap, subst, ◌∙◌, inl, inr, is_some}
 use mathlib.Core.List.{IsPrefix}
 use Rattle.addr_pattern.specs.declared.endpoint.Endpoint.{Endpoint}
 use Rattle.conf_model.specs.declared.config.Config.{Config}
@@ -37,7 +37,7 @@ use Rattle.socks_machine.specs.View.{proxy_in}
 use Rattle.assoc_core.specs.Plain.{IsPlainRecord, HasChosen, success_reply, refusal_owed, plain_to_target, payload_to_client}
 use Rattle.assoc_core.specs.Reaching.{at_of, cause_of}
 use Rattle.assoc_core.specs.Turns.{Acts, event_of, context, outer_of}
-use Rattle.assoc_core.proofs.PlainRecords.{and-false, no-proxy, reach-phase, direct_grant}
+use Rattle.assoc_core.proofs.PlainRecords.{and-false, reach-phase, passed_grant}
 use Rattle.assoc_core.proofs.TalkCloses.{sends}
 use Rattle.assoc_core.proofs.Talking.{Party}
 
@@ -58,6 +58,7 @@ pub record Dialling : Type 0 where
   pub g' : ℕ
   pub asked : Facts
   pub verdict : Verdict
+  pub route : Option ℕ
   pub c : List ℕ
   pub sent : List ℕ
   pub chosen : Option Chosen
@@ -66,6 +67,8 @@ pub record Dialling : Type 0 where
   pub whole : is_whole_input c ≡ true
   pub version : version_of c ≡ Some Version.V5
   pub sent' : IsPrefix sent (chosen_reply chosen ++ [])
+  pub direct : proxy_in route (numbered pubs g') ≡ None
+  pub known : g' ≤ length pubs
 
 abbrev pub dialler : Party → List ℕ → List ℕ → List ℕ → Option Chosen → List Decision → Option Cause → Record
 dialler p c sent_c sent_t chosen ds cause = record {
@@ -95,7 +98,7 @@ abbrev pub connecting : Facts → Facts
 connecting facts = record facts { command = Command.Connect }
 
 abbrev pub granted_before : Dialling → List Decision
-granted_before d = Decision.Opened d.g d.rule None ∷ Decision.Granted d.g' (connecting d.asked) d.verdict None None ∷ []
+granted_before d = Decision.Opened d.g d.rule None ∷ Decision.Granted d.g' (connecting d.asked) d.verdict d.route None ∷ []
 
 abbrev pub reached_behind : Dialling → Option Endpoint → List Decision
 reached_behind d at = granted_before d ++ Decision.Reached (d.asked).to at ∷ []
@@ -113,18 +116,18 @@ abbrev pub behind : Dialling → Option Endpoint → List ℕ → List ℕ → O
 behind d at sent_c sent_t cause = dialler d.party d.c sent_c sent_t d.chosen (reached_behind d at) cause
 
 abbrev pub grant_of : Dialling → Grant
-grant_of d = direct_grant d.g' (connecting d.asked) d.verdict
+grant_of d = passed_grant d.g' (connecting d.asked) d.verdict d.route
 
 pub phase-before : (d : Dialling) → phase (basis_of d) (before d) ≡ Phase.Reach (grant_of d)
-phase-before d = reach-phase d.users d.pubs (before d) d.g d.rule d.g' (connecting d.asked) d.verdict refl refl d.served d.chosen' d.whole d.version
+phase-before d = reach-phase d.users d.pubs (before d) d.g d.rule d.g' (connecting d.asked) d.verdict d.route refl refl d.served d.chosen' d.whole d.version
 
 -- ---- the call
 
 abbrev pub dialled_by : Dialling → DialOutcome → TurnResult
 dialled_by d o = record { left = behind d (at_of o) d.sent [] (cause_of o); h = d.h; marks = d.marks }
 
-to-is : (d : Dialling) → dialled (grant_of d) (proxy_in None (numbered d.pubs d.g')) ≡ (d.asked).to
-to-is d = ap (dialled (grant_of d)) (no-proxy (numbered d.pubs d.g'))
+to-is : (d : Dialling) → dialled (grant_of d) (proxy_in d.route (numbered d.pubs d.g')) ≡ (d.asked).to
+to-is d = ap (dialled (grant_of d)) d.direct
 
 pub called-as : (d : Dialling) (o : DialOutcome) → Called (context_of d) (outer_of o) None (before d) (dialled_by d o)
 called-as d (DialOutcome.CameUp local) = record {

@@ -3,7 +3,6 @@ use Rattle.std.proofs.Common.{◌≡◌, ℕ, ◌<◌, ◌⊎◌, inl, inr, Bool
 use Rattle.addr_pattern.specs.declared.endpoint.Endpoint.{Endpoint}
 use Rattle.conf_model.specs.declared.config.Config.{Config}
 use Rattle.conf_model.specs.declared.user.User.{User}
-use Rattle.conf_model.specs.Plain.{IsPlain}
 use Rattle.net_ends.specs.Counts.{Counts}
 use Rattle.net_ends.specs.Nets.{NetTold}
 use Rattle.net_ends.specs.Told.{Told}
@@ -15,12 +14,14 @@ use Rattle.socks_machine.specs.declared.record.Record.{Record}
 use Rattle.socks_machine.specs.declared.world.NextMark.{NextMark}
 use Rattle.socks_machine.specs.declared.world.Object.{Object}
 use Rattle.socks_machine.specs.declared.world.Outer.{Outer}
+use Rattle.socks_machine.specs.Basis.{Basis}
 use Rattle.socks_machine.specs.Calls.{call_close, close_line, cause_of_shut, is_calling}
 use Rattle.socks_machine.specs.Decisions.{reached_at}
 use Rattle.socks_machine.specs.History.{at_close}
 use Rattle.socks_machine.specs.Phase.{is_udp}
 use Rattle.socks_machine.specs.Relaying.{relayed}
 use Rattle.socks_machine.specs.Settle.{is_nothing}
+use Rattle.socks_machine.specs.Socks.{socks}
 use Rattle.socks_machine.specs.Turn.{turn, marked, quantum, fault_cause, is_quiet}
 use Rattle.assoc_core.specs.declared.assoc.Assoc.{Assoc}
 use Rattle.assoc_core.specs.declared.assoc.Ended.{Ended}
@@ -46,7 +47,7 @@ udp-same r plain = plain-tcp r plain
 -- where the law is that it closes, it closes
 pub relay-closes : {L : Type 0} (told : L → Told) (counts : L → Counts) (stands : List Line → List StopBy → Type 0)
     (users : List User) (pubs : List Config) (generation : ℕ) (config : Config) (cap : ℕ) (h : List Line) (marks : List StopBy) (now : ℕ) (net : NetTold)
-    (a mid : Assoc L) (e : Ended L) (pass : Pass) (k : RelayTurn told counts a (Next.Done e) pass) (fault : Option Object) (unwritten : Bool) (cause : Cause)
+    (a mid : Assoc L) (e : Ended L) (pass : Pass) (k : RelayTurn told counts (socks users pubs) a (Next.Done e) pass) (fault : Option Object) (unwritten : Bool) (cause : Cause)
     → fault_of pass ≡ fault → unwritten_of pass ≡ unwritten → mid.state ≡ k.new → Closed stands h marks cause mid e
     → ((worker : ℕ) (logged : Bool) → turn (context users pubs generation config cap h marks)
     (event_of worker a.state.number now (record (pass_acts told counts a (Next.Done e) pass k) { fault = fault; unwritten = unwritten; outer = Outer.Desk logged }) NextMark.Done) a.state
@@ -76,8 +77,8 @@ relay-closes {L} told counts stands users pubs generation config cap h marks now
 -- ---- not both sides are shut
 
 -- a turn in which not both sides are shut at its end
-apart-by : {L : Type 0} (told : L → Told) (counts : L → Counts) (a : Assoc L) (next : Next L) (pass : Pass) (k : RelayTurn told counts a next pass) → (k.new.shut_c ≡ true → k.new.shut_t ≡ true → ⊥)
-    → InRelay a.state k.at k.passes.takes_c.part k.passes.takes_t.part k.passes.gives_c.part k.passes.gives_c.rest k.passes.gives_t.part k.passes.gives_t.rest
+apart-by : {L : Type 0} {basis : Basis} (told : L → Told) (counts : L → Counts) (a : Assoc L) (next : Next L) (pass : Pass) (k : RelayTurn told counts basis a next pass) → (k.new.shut_c ≡ true → k.new.shut_t ≡ true → ⊥)
+    → InRelay basis a.state k.at k.passes.takes_c.part k.passes.takes_t.part k.passes.gives_c.part k.passes.gives_c.rest k.passes.gives_t.part k.passes.gives_t.rest
     k.passes.takes_c.ends k.passes.takes_t.ends k.passes.gives_c.shuts k.passes.gives_t.shuts
 apart-by told counts a next pass k unshut = record {
   begun = k.begun;
@@ -91,12 +92,12 @@ apart-by told counts a next pass k unshut = record {
     by-shut false t f = refl
 
 -- a side that was shut was sent all, and the other one has ended
-shut-facts-c : {L : Type 0} (told : L → Told) (counts : L → Counts) (a : Assoc L) (next : Next L) (pass : Pass) (k : RelayTurn told counts a next pass) → k.new.shut_c ≡ true
+shut-facts-c : {L : Type 0} {basis : Basis} (told : L → Told) (counts : L → Counts) (a : Assoc L) (next : Next L) (pass : Pass) (k : RelayTurn told counts basis a next pass) → k.new.shut_c ≡ true
     → (k.new.end_t ≡ true) × (k.passes.gives_c.rest ≡ [])
 shut-facts-c told counts a next pass k h =
     let f = shut-c a.state k.at _ _ _ _ _ _ _ _ _ _ k.begun (pass-sums _ _ _ _ _ _ a.state k.new pass k.passes) (sym k.passes.gives_c.shut' ∙ h) in (k.passes.takes_t.ended' ∙ f.0, f.1)
 
-shut-facts-t : {L : Type 0} (told : L → Told) (counts : L → Counts) (a : Assoc L) (next : Next L) (pass : Pass) (k : RelayTurn told counts a next pass) → k.new.shut_t ≡ true
+shut-facts-t : {L : Type 0} {basis : Basis} (told : L → Told) (counts : L → Counts) (a : Assoc L) (next : Next L) (pass : Pass) (k : RelayTurn told counts basis a next pass) → k.new.shut_t ≡ true
     → (k.new.end_c ≡ true) × (k.passes.gives_t.rest ≡ [])
 shut-facts-t told counts a next pass k h =
     let f = shut-t a.state k.at _ _ _ _ _ _ _ _ _ _ k.begun (pass-sums _ _ _ _ _ _ a.state k.new pass k.passes) (sym k.passes.gives_t.shut' ∙ h) in (k.passes.takes_c.ended' ∙ f.0, f.1)
@@ -106,7 +107,7 @@ unsound-clash rest ends shut (inl h) none k = clash (is_nothing rest) (ap is_not
 unsound-clash rest ends shut (inr h) none k = clash shut k h.1
 
 -- a failed call leaves a side open
-fault-apart : {L : Type 0} (told : L → Told) (counts : L → Counts) (a : Assoc L) (next : Next L) (pass : Pass) (k : RelayTurn told counts a next pass) (o : Object)
+fault-apart : {L : Type 0} {basis : Basis} (told : L → Told) (counts : L → Counts) (a : Assoc L) (next : Next L) (pass : Pass) (k : RelayTurn told counts basis a next pass) (o : Object)
     → FaultTells (Some o) (is_read pass.took_c) (is_sound pass.gave_t) (is_read pass.took_t) (is_sound pass.gave_c) → k.new.shut_c ≡ true → k.new.shut_t ≡ true → ⊥
 fault-apart told counts a next pass k Object.Client (inl e) c t = clash k.new.end_c (shut-facts-t told counts a next pass k t).0 (unread-of k.passes.takes_c e).0
 fault-apart told counts a next pass k Object.Client (inr e) c t = unsound-clash _ _ _ (unsound-of k.passes.gives_c e.3).2 (shut-facts-c told counts a next pass k c).1 c
@@ -121,13 +122,13 @@ tells-of pass fault h = subst (λ (z : Option Object). FaultTells z (is_read pas
 
 -- ---- it goes on
 
-quantum-of : {L : Type 0} (told : L → Told) (counts : L → Counts) (a : Assoc L) (next : Next L) (pass : Pass) (k : RelayTurn told counts a next pass)
+quantum-of : {L : Type 0} {basis : Basis} (told : L → Told) (counts : L → Counts) (a : Assoc L) (next : Next L) (pass : Pass) (k : RelayTurn told counts basis a next pass)
     → nat_le quantum (length k.passes.takes_c.part) || nat_le quantum (length k.passes.takes_t.part) ≡ took_quantum pass
 quantum-of told counts a next pass k = λ i. k.passes.takes_c.whole i || k.passes.takes_t.whole i
 
 pub relay-again : {L : Type 0} (told : L → Told) (counts : L → Counts) (stands : List Line → List StopBy → Type 0)
     (users : List User) (pubs : List Config) (generation : ℕ) (config : Config) (cap : ℕ) (h : List Line) (marks : List StopBy) (now : ℕ) (net : NetTold)
-    (a mid : Assoc L) (pass : Pass) (k : RelayTurn told counts a (Next.Again mid) pass) → fault_of pass ≡ None → unwritten_of pass ≡ false → mid.state ≡ k.new
+    (a mid : Assoc L) (pass : Pass) (k : RelayTurn told counts (socks users pubs) a (Next.Again mid) pass) → fault_of pass ≡ None → unwritten_of pass ≡ false → mid.state ≡ k.new
     → a.state.since ≡ now → (k.new.shut_c ≡ true → k.new.shut_t ≡ true → ⊥) → took_quantum pass ≡ true → stands h marks
     → Turns told counts stands (context users pubs generation config cap h marks) now net net a (Next.Again mid)
 relay-again told counts stands users pubs generation config cap h marks now net a mid pass k none written m same unshut took desked =
@@ -135,7 +136,7 @@ relay-again told counts stands users pubs generation config cap h marks now net 
     (λ worker. goes-again users pubs generation config cap h marks worker a.state.number now a.state k.at _ _ _ _ _ _ _ _ _ _ _ _ _ _ relay same (quantum-of told counts a (Next.Again mid) pass k ∙ took))
     leaves desked (subst IsPlainRecord (sym leaves) (sums-carried a.state k.at _ _ _ _ _ _ _ _ _ _ a.state.cause k.begun relay.sums relay.apart))
   where
-    relay : InRelay a.state k.at k.passes.takes_c.part k.passes.takes_t.part k.passes.gives_c.part k.passes.gives_c.rest k.passes.gives_t.part k.passes.gives_t.rest
+    relay : InRelay (socks users pubs) a.state k.at k.passes.takes_c.part k.passes.takes_t.part k.passes.gives_c.part k.passes.gives_c.rest k.passes.gives_t.part k.passes.gives_t.rest
         k.passes.takes_c.ends k.passes.takes_t.ends k.passes.gives_c.shuts k.passes.gives_t.shuts
     relay = apart-by told counts a (Next.Again mid) pass k unshut
 
@@ -158,15 +159,15 @@ side true false nothing false h f = absurd (clash false (f refl refl) refl)
 
 pub relay-waits : {L : Type 0} (told : L → Told) (counts : L → Counts) (stands : List Line → List StopBy → Type 0)
     (users : List User) (pubs : List Config) (generation : ℕ) (config : Config) (cap : ℕ) (h : List Line) (marks : List StopBy) (now : ℕ) (net : NetTold)
-    (a mid : Assoc L) (pass : Pass) (k : RelayTurn told counts a (Next.Wait mid) pass) → fault_of pass ≡ None → unwritten_of pass ≡ false → mid.state ≡ k.new
-    → IsPlain config → a.state.since ≡ now → (k.new.shut_c ≡ true → k.new.shut_t ≡ true → ⊥) → took_quantum pass ≡ false → stands h marks
+    (a mid : Assoc L) (pass : Pass) (k : RelayTurn told counts (socks users pubs) a (Next.Wait mid) pass) → fault_of pass ≡ None → unwritten_of pass ≡ false → mid.state ≡ k.new
+    → a.state.since ≡ now → (k.new.shut_c ≡ true → k.new.shut_t ≡ true → ⊥) → took_quantum pass ≡ false → stands h marks
     → Turns told counts stands (context users pubs generation config cap h marks) now net net a (Next.Wait mid)
-relay-waits told counts stands users pubs generation config cap h marks now net a mid pass k none written m config-plain same unshut took desked =
+relay-waits told counts stands users pubs generation config cap h marks now net a mid pass k none written m same unshut took desked =
     relay-turns told counts stands users pubs generation config cap h marks now net a (Next.Wait mid) pass k None false Outer.Nothing a.state.cause a.state.at_close a.state.done h marks none written tt
-    (λ worker. goes-waiting users pubs generation config cap h marks worker a.state.number now a.state k.at _ _ _ _ _ _ _ _ _ _ _ _ _ _ relay config-plain same (quantum-of told counts a (Next.Wait mid) pass k ∙ took) resting)
+    (λ worker. goes-waiting users pubs generation config cap h marks worker a.state.number now a.state k.at _ _ _ _ _ _ _ _ _ _ _ _ _ _ relay same (quantum-of told counts a (Next.Wait mid) pass k ∙ took) resting)
     leaves desked (subst IsPlainRecord (sym leaves) (sums-carried a.state k.at _ _ _ _ _ _ _ _ _ _ a.state.cause k.begun relay.sums relay.apart))
   where
-    relay : InRelay a.state k.at k.passes.takes_c.part k.passes.takes_t.part k.passes.gives_c.part k.passes.gives_c.rest k.passes.gives_t.part k.passes.gives_t.rest
+    relay : InRelay (socks users pubs) a.state k.at k.passes.takes_c.part k.passes.takes_t.part k.passes.gives_c.part k.passes.gives_c.rest k.passes.gives_t.part k.passes.gives_t.rest
         k.passes.takes_c.ends k.passes.takes_t.ends k.passes.gives_c.shuts k.passes.gives_t.shuts
     relay = apart-by told counts a (Next.Wait mid) pass k unshut
 
@@ -211,8 +212,8 @@ side-fails : (ended other was shuts shut : Bool) (rest : List ℕ) (ends : Bool)
 side-fails ended other was shuts shut rest ends e f (inl h) = FailsSide.unsent h
 side-fails ended other was shuts shut rest ends e f (inr h) = FailsSide.unshut (f h.0) (was-open shuts was (sym e ∙ h.1))
 
-pub in-fault : {L : Type 0} (told : L → Told) (counts : L → Counts) (a : Assoc L) (next : Next L) (pass : Pass) (k : RelayTurn told counts a next pass) (o : Object) → fault_of pass ≡ Some o
-    → InFault a.state k.at k.passes.takes_c.part k.passes.takes_t.part k.passes.gives_c.part k.passes.gives_c.rest k.passes.gives_t.part k.passes.gives_t.rest
+pub in-fault : {L : Type 0} {basis : Basis} (told : L → Told) (counts : L → Counts) (a : Assoc L) (next : Next L) (pass : Pass) (k : RelayTurn told counts basis a next pass) (o : Object) → fault_of pass ≡ Some o
+    → InFault basis a.state k.at k.passes.takes_c.part k.passes.takes_t.part k.passes.gives_c.part k.passes.gives_c.rest k.passes.gives_t.part k.passes.gives_t.rest
     k.passes.takes_c.ends k.passes.takes_t.ends k.passes.gives_c.shuts k.passes.gives_t.shuts o (unwritten_of pass)
 in-fault told counts a next pass k o h = record {
   relay = apart-by told counts a next pass k (fault-apart told counts a next pass k o (tells-of pass (Some o) h));
@@ -244,7 +245,7 @@ in-fault told counts a next pass k o h = record {
 -- where a call failed, and it has nothing more to do, it closes
 pub fault-closes : {L : Type 0} (told : L → Told) (counts : L → Counts) (stands : List Line → List StopBy → Type 0)
     (users : List User) (pubs : List Config) (generation : ℕ) (config : Config) (cap : ℕ) (h : List Line) (marks : List StopBy) (now : ℕ) (net : NetTold)
-    (a mid : Assoc L) (e : Ended L) (pass : Pass) (k : RelayTurn told counts a (Next.Done e) pass) (o : Object)
+    (a mid : Assoc L) (e : Ended L) (pass : Pass) (k : RelayTurn told counts (socks users pubs) a (Next.Done e) pass) (o : Object)
     → fault_of pass ≡ Some o → mid.state ≡ k.new → Closed stands h marks (fault_cause o) mid e → a.state.since ≡ now
     → (is_nothing k.passes.gives_c.rest && is_nothing k.passes.gives_t.rest) || unwritten_of pass || is_quiet (Some (fault_cause o)) ≡ true
     → Turns told counts stands (context users pubs generation config cap h marks) now net net a (Next.Done e)
@@ -254,22 +255,22 @@ fault-closes told counts stands users pubs generation config cap h marks now net
     closes-with (context users pubs generation config cap h marks) a.state worker a.state.number now _ _ _ _ (fault_cause o) logged f.turned (ap (λ p. is_calling p None) f.relays') f.fits same refl f.opened'
     (ap (λ b. b || unwritten_of pass || is_quiet (Some (fault_cause o))) (pending-none users pubs a.state k.at _ _ _ _ _ _ _ _ _ _ (Some (fault_cause o)) fault.relay) ∙ due))
   where
-    fault : InFault a.state k.at k.passes.takes_c.part k.passes.takes_t.part k.passes.gives_c.part k.passes.gives_c.rest k.passes.gives_t.part k.passes.gives_t.rest
+    fault : InFault (socks users pubs) a.state k.at k.passes.takes_c.part k.passes.takes_t.part k.passes.gives_c.part k.passes.gives_c.rest k.passes.gives_t.part k.passes.gives_t.rest
         k.passes.takes_c.ends k.passes.takes_t.ends k.passes.gives_c.shuts k.passes.gives_t.shuts o (unwritten_of pass)
     fault = in-fault told counts a (Next.Done e) pass k o is_fault
 
 -- what a call of the target's failed on is still sent to the client
 fault-rests : {L : Type 0} (told : L → Told) (counts : L → Counts)
     (users : List User) (pubs : List Config) (generation : ℕ) (config : Config) (cap : ℕ) (h : List Line) (marks : List StopBy) (now : ℕ) (worker : ℕ)
-    (a : Assoc L) (next : Next L) (pass : Pass) (k : RelayTurn told counts a next pass) → fault_of pass ≡ Some Object.Target → unwritten_of pass ≡ false → has_pending pass ≡ true
-    → IsPlain config → a.state.since ≡ now → mark_of next ≡ (if took_quantum pass then NextMark.Again else NextMark.Wait)
+    (a : Assoc L) (next : Next L) (pass : Pass) (k : RelayTurn told counts (socks users pubs) a next pass) → fault_of pass ≡ Some Object.Target → unwritten_of pass ≡ false → has_pending pass ≡ true
+    → a.state.since ≡ now → mark_of next ≡ (if took_quantum pass then NextMark.Again else NextMark.Wait)
     → turn (context users pubs generation config cap h marks)
     (event_of worker a.state.number now (record (pass_acts told counts a next pass k) { fault = Some Object.Target; unwritten = unwritten_of pass; outer = Outer.Nothing }) (mark_of next)) a.state
     ≡ Some (record { left = pass_leaves told counts a next pass k (Some Cause.TargetFault); h = h; marks = marks })
-fault-rests told counts users pubs generation config cap h marks now worker a next pass k is_fault written pending config-plain same mark =
+fault-rests told counts users pubs generation config cap h marks now worker a next pass k is_fault written pending same mark =
     rests-with (context users pubs generation config cap h marks) a.state worker a.state.number now
     (fault_acts (pass_acts told counts a next pass k) Object.Target (unwritten_of pass) Outer.Nothing) _ _ _ Cause.TargetFault (mark_of next) f.turned (ap (λ p. is_calling p None) f.relays') f.fits same refl
-    k.begun.plain.undone refl f.opened' config-plain
+    k.begun.plain.undone refl f.opened'
     (ap (λ b. b || unwritten_of pass || false) (pending-none users pubs a.state k.at _ _ _ _ _ _ _ _ _ _ (Some Cause.TargetFault) fault.relay)
     ∙ (ap (λ b. (is_nothing k.passes.gives_c.rest && is_nothing k.passes.gives_t.rest) || b || false) written
     ∙ ((λ i. (nothing_c i && nothing_t i) || false || false) ∙ undue (is_full pass.gave_c) (is_full pass.gave_t) pending)))
@@ -278,7 +279,7 @@ fault-rests told counts users pubs generation config cap h marks now worker a ne
     (sink (is_nothing k.passes.gives_c.rest) (is_full pass.gave_c) nothing_c) (sink (is_nothing k.passes.gives_t.rest) (is_full pass.gave_t) nothing_t))
     (mark ∙ by-quantum (took_quantum pass) _ (quantum-of told counts a next pass k))
   where
-    fault : InFault a.state k.at k.passes.takes_c.part k.passes.takes_t.part k.passes.gives_c.part k.passes.gives_c.rest k.passes.gives_t.part k.passes.gives_t.rest
+    fault : InFault (socks users pubs) a.state k.at k.passes.takes_c.part k.passes.takes_t.part k.passes.gives_c.part k.passes.gives_c.rest k.passes.gives_t.part k.passes.gives_t.rest
         k.passes.takes_c.ends k.passes.takes_t.ends k.passes.gives_c.shuts k.passes.gives_t.shuts Object.Target (unwritten_of pass)
     fault = in-fault told counts a next pass k Object.Target is_fault
 
@@ -310,15 +311,15 @@ fault-rests told counts users pubs generation config cap h marks now worker a ne
 
 pub fault-waits : {L : Type 0} (told : L → Told) (counts : L → Counts) (stands : List Line → List StopBy → Type 0)
     (users : List User) (pubs : List Config) (generation : ℕ) (config : Config) (cap : ℕ) (h : List Line) (marks : List StopBy) (now : ℕ) (net : NetTold)
-    (a mid : Assoc L) (pass : Pass) (k : RelayTurn told counts a (Next.Wait mid) pass) → fault_of pass ≡ Some Object.Target → unwritten_of pass ≡ false → has_pending pass ≡ true
-    → mid.state ≡ record k.new { cause = Some Cause.TargetFault } → IsPlain config → a.state.since ≡ now → took_quantum pass ≡ false → stands h marks
+    (a mid : Assoc L) (pass : Pass) (k : RelayTurn told counts (socks users pubs) a (Next.Wait mid) pass) → fault_of pass ≡ Some Object.Target → unwritten_of pass ≡ false → has_pending pass ≡ true
+    → mid.state ≡ record k.new { cause = Some Cause.TargetFault } → a.state.since ≡ now → took_quantum pass ≡ false → stands h marks
     → Turns told counts stands (context users pubs generation config cap h marks) now net net a (Next.Wait mid)
-fault-waits told counts stands users pubs generation config cap h marks now net a mid pass k is_fault written pending m config-plain same took desked =
+fault-waits told counts stands users pubs generation config cap h marks now net a mid pass k is_fault written pending m same took desked =
     relay-turns told counts stands users pubs generation config cap h marks now net a (Next.Wait mid) pass k (Some Object.Target) (unwritten_of pass) Outer.Nothing (Some Cause.TargetFault) a.state.at_close a.state.done h marks is_fault refl tt
-    (λ worker. fault-rests told counts users pubs generation config cap h marks now worker a (Next.Wait mid) pass k is_fault written pending config-plain same (ap (λ b. if b then NextMark.Again else NextMark.Wait) (sym took)))
+    (λ worker. fault-rests told counts users pubs generation config cap h marks now worker a (Next.Wait mid) pass k is_fault written pending same (ap (λ b. if b then NextMark.Again else NextMark.Wait) (sym took)))
     leaves desked (subst IsPlainRecord (sym leaves) (sums-carried a.state k.at _ _ _ _ _ _ _ _ _ _ (Some Cause.TargetFault) k.begun relay.sums relay.apart))
   where
-    relay : InRelay a.state k.at k.passes.takes_c.part k.passes.takes_t.part k.passes.gives_c.part k.passes.gives_c.rest k.passes.gives_t.part k.passes.gives_t.rest
+    relay : InRelay (socks users pubs) a.state k.at k.passes.takes_c.part k.passes.takes_t.part k.passes.gives_c.part k.passes.gives_c.rest k.passes.gives_t.part k.passes.gives_t.rest
         k.passes.takes_c.ends k.passes.takes_t.ends k.passes.gives_c.shuts k.passes.gives_t.shuts
     relay = (in-fault told counts a (Next.Wait mid) pass k Object.Target is_fault).relay
 
@@ -327,15 +328,15 @@ fault-waits told counts stands users pubs generation config cap h marks now net 
 
 pub fault-again : {L : Type 0} (told : L → Told) (counts : L → Counts) (stands : List Line → List StopBy → Type 0)
     (users : List User) (pubs : List Config) (generation : ℕ) (config : Config) (cap : ℕ) (h : List Line) (marks : List StopBy) (now : ℕ) (net : NetTold)
-    (a mid : Assoc L) (pass : Pass) (k : RelayTurn told counts a (Next.Again mid) pass) → fault_of pass ≡ Some Object.Target → unwritten_of pass ≡ false → has_pending pass ≡ true
-    → mid.state ≡ record k.new { cause = Some Cause.TargetFault } → IsPlain config → a.state.since ≡ now → took_quantum pass ≡ true → stands h marks
+    (a mid : Assoc L) (pass : Pass) (k : RelayTurn told counts (socks users pubs) a (Next.Again mid) pass) → fault_of pass ≡ Some Object.Target → unwritten_of pass ≡ false → has_pending pass ≡ true
+    → mid.state ≡ record k.new { cause = Some Cause.TargetFault } → a.state.since ≡ now → took_quantum pass ≡ true → stands h marks
     → Turns told counts stands (context users pubs generation config cap h marks) now net net a (Next.Again mid)
-fault-again told counts stands users pubs generation config cap h marks now net a mid pass k is_fault written pending m config-plain same took desked =
+fault-again told counts stands users pubs generation config cap h marks now net a mid pass k is_fault written pending m same took desked =
     relay-turns told counts stands users pubs generation config cap h marks now net a (Next.Again mid) pass k (Some Object.Target) (unwritten_of pass) Outer.Nothing (Some Cause.TargetFault) a.state.at_close a.state.done h marks is_fault refl tt
-    (λ worker. fault-rests told counts users pubs generation config cap h marks now worker a (Next.Again mid) pass k is_fault written pending config-plain same (ap (λ b. if b then NextMark.Again else NextMark.Wait) (sym took)))
+    (λ worker. fault-rests told counts users pubs generation config cap h marks now worker a (Next.Again mid) pass k is_fault written pending same (ap (λ b. if b then NextMark.Again else NextMark.Wait) (sym took)))
     leaves desked (subst IsPlainRecord (sym leaves) (sums-carried a.state k.at _ _ _ _ _ _ _ _ _ _ (Some Cause.TargetFault) k.begun relay.sums relay.apart))
   where
-    relay : InRelay a.state k.at k.passes.takes_c.part k.passes.takes_t.part k.passes.gives_c.part k.passes.gives_c.rest k.passes.gives_t.part k.passes.gives_t.rest
+    relay : InRelay (socks users pubs) a.state k.at k.passes.takes_c.part k.passes.takes_t.part k.passes.gives_c.part k.passes.gives_c.rest k.passes.gives_t.part k.passes.gives_t.rest
         k.passes.takes_c.ends k.passes.takes_t.ends k.passes.gives_c.shuts k.passes.gives_t.shuts
     relay = (in-fault told counts a (Next.Again mid) pass k Object.Target is_fault).relay
 
@@ -346,7 +347,7 @@ fault-again told counts stands users pubs generation config cap h marks now net 
 
 pub relay-finishes : {L : Type 0} (told : L → Told) (counts : L → Counts) (stands : List Line → List StopBy → Type 0)
     (users : List User) (pubs : List Config) (generation : ℕ) (config : Config) (cap : ℕ) (h : List Line) (marks : List StopBy) (now : ℕ) (net : NetTold)
-    (a mid : Assoc L) (e : Ended L) (pass : Pass) (k : RelayTurn told counts a (Next.Done e) pass)
+    (a mid : Assoc L) (e : Ended L) (pass : Pass) (k : RelayTurn told counts (socks users pubs) a (Next.Done e) pass)
     → fault_of pass ≡ None → unwritten_of pass ≡ false → mid.state ≡ k.new → Closed stands h marks Cause.Finished mid e → a.state.since ≡ now
     → k.new.shut_c ≡ true → k.new.shut_t ≡ true
     → Turns told counts stands (context users pubs generation config cap h marks) now net net a (Next.Done e)
@@ -358,10 +359,10 @@ relay-finishes told counts stands users pubs generation config cap h marks now n
 -- ---- between the code and the turn
 
 -- a pass that was made, and an association that ended behind it
-abbrev pub done-turn : {L : Type 0} (told : L → Told) (counts : L → Counts) (a mid : Assoc L) (e : Ended L) (link link' : L) (at : Endpoint) (pass : Pass)
-    → Stands told a → Begun a.state at → a.target ≡ Some link → mid.target ≡ Some link'
+abbrev pub done-turn : {L : Type 0} {basis : Basis} (told : L → Told) (counts : L → Counts) (a mid : Assoc L) (e : Ended L) (link link' : L) (at : Endpoint) (pass : Pass)
+    → Stands told basis a → Begun basis a.state at → a.target ≡ Some link → mid.target ≡ Some link'
     → Passes (told a.client) (told mid.client) (told link) (told link') (counts a.client) (counts mid.client) a.state mid.state pass
-    → e.client ≡ mid.client → e.target ≡ mid.target → RelayTurn told counts a (Next.Done e) pass
+    → e.client ≡ mid.client → e.target ≡ mid.target → RelayTurn told counts basis a (Next.Done e) pass
 done-turn {L} told counts a mid e link link' at pass stands begun there there' passes client target = record {
   link = link;
   link' = link';
@@ -395,7 +396,7 @@ both-shut true t h = (refl, h)
 both-shut false t h = absurd (cc)
 
 -- nothing more is to be done behind a fault of the target's
-pub over-due : {L : Type 0} (told : L → Told) (counts : L → Counts) (a : Assoc L) (next : Next L) (pass : Pass) (k : RelayTurn told counts a next pass) → fault_of pass ≡ Some Object.Target
+pub over-due : {L : Type 0} {basis : Basis} (told : L → Told) (counts : L → Counts) (a : Assoc L) (next : Next L) (pass : Pass) (k : RelayTurn told counts basis a next pass) → fault_of pass ≡ Some Object.Target
     → unwritten_of pass || not (has_pending pass) ≡ true
     → (is_nothing k.passes.gives_c.rest && is_nothing k.passes.gives_t.rest) || unwritten_of pass || false ≡ true
 over-due told counts a next pass k is_fault h = by-write (unwritten_of pass) refl
@@ -436,7 +437,7 @@ quiet-due false false = refl
 
 pub client-closes : {L : Type 0} (told : L → Told) (counts : L → Counts) (stands : List Line → List StopBy → Type 0)
     (users : List User) (pubs : List Config) (generation : ℕ) (config : Config) (cap : ℕ) (h : List Line) (marks : List StopBy) (now : ℕ) (net : NetTold)
-    (a mid : Assoc L) (e : Ended L) (pass : Pass) (k : RelayTurn told counts a (Next.Done e) pass)
+    (a mid : Assoc L) (e : Ended L) (pass : Pass) (k : RelayTurn told counts (socks users pubs) a (Next.Done e) pass)
     → fault_of pass ≡ Some Object.Client → mid.state ≡ k.new → Closed stands h marks Cause.ClientFault mid e → a.state.since ≡ now
     → Turns told counts stands (context users pubs generation config cap h marks) now net net a (Next.Done e)
 client-closes told counts stands users pubs generation config cap h marks now net a mid e pass k is_fault m closed same =

@@ -3,7 +3,6 @@ use Rattle.std.proofs.Common.{◌≡◌, ℕ, ◌⊎◌, inl, inr, Bool, true, f
 use Rattle.addr_pattern.specs.declared.endpoint.Endpoint.{Endpoint}
 use Rattle.conf_model.specs.declared.config.Config.{Config}
 use Rattle.conf_model.specs.declared.user.User.{User}
-use Rattle.conf_model.specs.Plain.{IsPlain}
 use Rattle.socks_machine.specs.declared.cause.Cause.{Cause}
 use Rattle.socks_machine.specs.declared.cause.StopBy.{StopBy}
 use Rattle.socks_machine.specs.declared.lines.Line.{Line}
@@ -36,13 +35,13 @@ use Rattle.assoc_core.proofs.RelaySums.{Sums, summed, Begun, sum_acts, relays, s
 -- ---- what is pending of a record behind a relay's turn
 
 pending-c : (users : List User) (pubs : List Config) (old : Record) (at : Endpoint) (c t part_c rest_c part_t rest_t : List ℕ) (end_c end_t shut_c shut_t : Bool) (cause : Option Cause)
-    → InRelay old at c t part_c rest_c part_t rest_t end_c end_t shut_c shut_t
+    → InRelay (socks users pubs) old at c t part_c rest_c part_t rest_t end_c end_t shut_c shut_t
     → pending_to_client (socks users pubs) (summed old c t part_c part_t end_c end_t shut_c shut_t cause) ≡ rest_c
 pending-c users pubs old at c t part_c rest_c part_t rest_t end_c end_t shut_c shut_t cause k =
     drop-sent (old.sent_c ++ part_c) rest_c _ (owes-c users pubs old at c t part_c rest_c part_t rest_t end_c end_t shut_c shut_t cause k)
 
 pending-t : (users : List User) (pubs : List Config) (old : Record) (at : Endpoint) (c t part_c rest_c part_t rest_t : List ℕ) (end_c end_t shut_c shut_t : Bool) (cause : Option Cause)
-    → InRelay old at c t part_c rest_c part_t rest_t end_c end_t shut_c shut_t
+    → InRelay (socks users pubs) old at c t part_c rest_c part_t rest_t end_c end_t shut_c shut_t
     → pending_to_target (socks users pubs) (summed old c t part_c part_t end_c end_t shut_c shut_t cause) ≡ rest_t
 pending-t users pubs old at c t part_c rest_c part_t rest_t end_c end_t shut_c shut_t cause k =
     drop-sent (old.sent_t ++ part_t) rest_t _ (owes-t users pubs old at c t part_c rest_c part_t rest_t end_c end_t shut_c shut_t cause k)
@@ -80,12 +79,12 @@ closes-with s old worker number now acts a d x cause logged h calls_none fits sa
 pub rests-with : (s : Context) (old : Record) (worker number now : ℕ) (acts : Acts) (a d x : Record) (cause : Cause) (next : NextMark)
     → InTurn s old (event_of worker number now acts NextMark.Going) a (keep s a) d x
     → is_calling (phase s.basis a) None ≡ false → fault_fits s.basis acts.fault acts.unwritten a ≡ true → x.since ≡ now → acts.outer ≡ Outer.Nothing
-    → x.done ≡ false → x.cause ≡ Some cause → is_opened x.decisions ≡ true → IsPlain s.config
+    → x.done ≡ false → x.cause ≡ Some cause → is_opened x.decisions ≡ true
     → nothing_pending s.basis x || acts.unwritten || is_quiet (Some cause) ≡ false
     → sinks_rest s.basis (event_of worker number now acts NextMark.Going) x ≡ true
     → next ≡ (if nat_le quantum (length acts.c) || nat_le quantum (length acts.t) || false then NextMark.Again else NextMark.Wait)
     → turn s (event_of worker number now acts next) old ≡ Some (keep s x)
-rests-with s old worker number now acts a d x cause next h calls_none fits same nothing undone fixed opened' config-plain undue sinks is =
+rests-with s old worker number now acts a d x cause next h calls_none fits same nothing undone fixed opened' undue sinks is =
     answers s old e a d x next h nothing first fits (subst (λ (z : Record). answer_after s e z Calling.NoCall ≡ Some next) (sym aged-x) answer)
     ∙ (λ i. Some (record { left = record (aged-x i) { done = undone-by next is' i }; h = s.h; marks = s.marks }))
   where
@@ -121,7 +120,7 @@ rests-with s old worker number now acts a d x cause next h calls_none fits same 
     closing-x = closing-phase s.basis x cause undone fixed
 
     early : is_late s.basis s.config now x ≡ false
-    early = never-late s.basis s.config now x config-plain same
+    early = never-late s.basis s.config now x same
 
     due : Bool
     due = nothing_pending s.basis x || acts.unwritten || is_quiet (Some cause) || (rests s.basis e x && is_late s.basis s.config now x)
@@ -155,13 +154,13 @@ rests-with s old worker number now acts a d x cause next h calls_none fits same 
         ∙ by-rest (took_quantum e) refl is
 
 pub pending-none : (users : List User) (pubs : List Config) (old : Record) (at : Endpoint) (c t part_c rest_c part_t rest_t : List ℕ) (end_c end_t shut_c shut_t : Bool) (cause : Option Cause)
-    → InRelay old at c t part_c rest_c part_t rest_t end_c end_t shut_c shut_t
+    → InRelay (socks users pubs) old at c t part_c rest_c part_t rest_t end_c end_t shut_c shut_t
     → nothing_pending (socks users pubs) (summed old c t part_c part_t end_c end_t shut_c shut_t cause) ≡ is_nothing rest_c && is_nothing rest_t
 pending-none users pubs old at c t part_c rest_c part_t rest_t end_c end_t shut_c shut_t cause k =
     λ i. is_nothing (pending-c users pubs old at c t part_c rest_c part_t rest_t end_c end_t shut_c shut_t cause k i) && is_nothing (pending-t users pubs old at c t part_c rest_c part_t rest_t end_c end_t shut_c shut_t cause k i)
 
 pub sinks-by : (users : List User) (pubs : List Config) (old : Record) (at : Endpoint) (c t part_c rest_c part_t rest_t : List ℕ) (end_c end_t shut_c shut_t : Bool) (cause : Option Cause)
-    (full_c full_t : Bool) (e : TurnEvent) → e.full ≡ links full_c full_t → InRelay old at c t part_c rest_c part_t rest_t end_c end_t shut_c shut_t
+    (full_c full_t : Bool) (e : TurnEvent) → e.full ≡ links full_c full_t → InRelay (socks users pubs) old at c t part_c rest_c part_t rest_t end_c end_t shut_c shut_t
     → is_nothing rest_c || full_c ≡ true → is_nothing rest_t || full_t ≡ true → sinks_rest (socks users pubs) e (summed old c t part_c part_t end_c end_t shut_c shut_t cause) ≡ true
 sinks-by users pubs old at c t part_c rest_c part_t rest_t end_c end_t shut_c shut_t cause full_c full_t e full k sink_c sink_t =
     both _ _ (ap (λ z. is_nothing z || holds Object.Client e.full) (pending-c users pubs old at c t part_c rest_c part_t rest_t end_c end_t shut_c shut_t cause k)
@@ -179,24 +178,24 @@ Finishes users pubs generation config cap h marks worker number now old c t part
     ≡ Some (marked NextMark.Done (call_close h marks (summed old c t part_c part_t end_c end_t shut_c shut_t (Some Cause.Finished)) Cause.Finished logged))
 
 sends-rest-c : (users : List User) (pubs : List Config) (generation : ℕ) (config : Config) (cap : ℕ) (h : List Line) (marks : List StopBy)
-    (old : Record) (at : Endpoint) (c t part_c rest_c part_t rest_t : List ℕ) (end_c end_t shut_c shut_t : Bool) → InRelay old at c t part_c rest_c part_t rest_t end_c end_t shut_c shut_t
+    (old : Record) (at : Endpoint) (c t part_c rest_c part_t rest_t : List ℕ) (end_c end_t shut_c shut_t : Bool) → InRelay (socks users pubs) old at c t part_c rest_c part_t rest_t end_c end_t shut_c shut_t
     → (old.sent_c ++ part_c) ++ rest_c ≡ due_c (context users pubs generation config cap h marks) old t
 sends-rest-c users pubs generation config cap h marks old at c t part_c rest_c part_t rest_t end_c end_t shut_c shut_t k =
     owes-c users pubs old at c t part_c rest_c part_t rest_t end_c end_t shut_c shut_t old.cause k
     ∙ relay-owes-c (context users pubs generation config cap h marks) old c t (end_c || old.end_c) (end_t || old.end_t)
-    (plain-relay-facts users pubs generation config cap h marks old at k.begun.plain k.begun.reaches k.begun.uncaused)
+    (plain-relay-facts users pubs generation config cap h marks old at k.begun.plain k.begun.reaches k.begun.uncaused k.begun.direct)
 
 sends-rest-t : (users : List User) (pubs : List Config) (generation : ℕ) (config : Config) (cap : ℕ) (h : List Line) (marks : List StopBy)
-    (old : Record) (at : Endpoint) (c t part_c rest_c part_t rest_t : List ℕ) (end_c end_t shut_c shut_t : Bool) → InRelay old at c t part_c rest_c part_t rest_t end_c end_t shut_c shut_t
+    (old : Record) (at : Endpoint) (c t part_c rest_c part_t rest_t : List ℕ) (end_c end_t shut_c shut_t : Bool) → InRelay (socks users pubs) old at c t part_c rest_c part_t rest_t end_c end_t shut_c shut_t
     → (old.sent_t ++ part_t) ++ rest_t ≡ due_t (context users pubs generation config cap h marks) old c
 sends-rest-t users pubs generation config cap h marks old at c t part_c rest_c part_t rest_t end_c end_t shut_c shut_t k =
     owes-t users pubs old at c t part_c rest_c part_t rest_t end_c end_t shut_c shut_t old.cause k
     ∙ relay-owes-t (context users pubs generation config cap h marks) old c t (end_c || old.end_c) (end_t || old.end_t)
-    (plain-relay-facts users pubs generation config cap h marks old at k.begun.plain k.begun.reaches k.begun.uncaused)
+    (plain-relay-facts users pubs generation config cap h marks old at k.begun.plain k.begun.reaches k.begun.uncaused k.begun.direct)
 
 -- the client's side is shut last, or at once with the target's
 finishes-c : (users : List User) (pubs : List Config) (generation : ℕ) (config : Config) (cap : ℕ) (h : List Line) (marks : List StopBy) (worker number now : ℕ)
-    (old : Record) (at : Endpoint) (c t part_c rest_c part_t rest_t : List ℕ) (end_c end_t shut_t idle_c idle_t full_c full_t logged : Bool) → Begun old at
+    (old : Record) (at : Endpoint) (c t part_c rest_c part_t rest_t : List ℕ) (end_c end_t shut_t idle_c idle_t full_c full_t logged : Bool) → Begun (socks users pubs) old at
     → Sums old c t part_c rest_c part_t rest_t end_c end_t true shut_t → old.since ≡ now → shut_t || old.shut_t ≡ true
     → Finishes users pubs generation config cap h marks worker number now old c t part_c part_t end_c end_t true shut_t idle_c idle_t full_c full_t logged
 finishes-c users pubs generation config cap h marks worker number now old at c t part_c rest_c part_t rest_t end_c end_t shut_t idle_c idle_t full_c full_t logged b k same both_t =
@@ -217,7 +216,7 @@ finishes-c users pubs generation config cap h marks worker number now old at c t
     k' : Sums old c t part_c rest_c part_t rest_t end_c end_t false shut_t
     k' = record { may_c = k.may_c; may_t = k.may_t; pending_c = k.pending_c; pending_t = k.pending_t; once_c = λ e. cc; once_t = k.once_t; due_c = λ e. absurd (cc); due_t = k.due_t }
 
-    in_relay : InRelay old at c t part_c rest_c part_t rest_t end_c end_t false shut_t
+    in_relay : InRelay (socks users pubs) old at c t part_c rest_c part_t rest_t end_c end_t false shut_t
     in_relay = record { begun = b; sums = k'; apart = ap (λ z. z && (shut_t || old.shut_t)) open_c }
 
     e : TurnEvent
@@ -243,7 +242,7 @@ finishes-c users pubs generation config cap h marks worker number now old at c t
 
 -- the target's side is shut last
 finishes-t : (users : List User) (pubs : List Config) (generation : ℕ) (config : Config) (cap : ℕ) (h : List Line) (marks : List StopBy) (worker number now : ℕ)
-    (old : Record) (at : Endpoint) (c t part_c rest_c part_t rest_t : List ℕ) (end_c end_t idle_c idle_t full_c full_t logged : Bool) → Begun old at
+    (old : Record) (at : Endpoint) (c t part_c rest_c part_t rest_t : List ℕ) (end_c end_t idle_c idle_t full_c full_t logged : Bool) → Begun (socks users pubs) old at
     → Sums old c t part_c rest_c part_t rest_t end_c end_t false true → old.since ≡ now → old.shut_c ≡ true
     → Finishes users pubs generation config cap h marks worker number now old c t part_c part_t end_c end_t false true idle_c idle_t full_c full_t logged
 finishes-t users pubs generation config cap h marks worker number now old at c t part_c rest_c part_t rest_t end_c end_t idle_c idle_t full_c full_t logged b k same both_c =
@@ -268,7 +267,7 @@ finishes-t users pubs generation config cap h marks worker number now old at c t
     k' : Sums old c t part_c rest_c part_t rest_t end_c end_t false false
     k' = record { may_c = k.may_c; may_t = k.may_t; pending_c = k.pending_c; pending_t = k.pending_t; once_c = λ e. cc; once_t = λ e. cc; due_c = λ e. absurd (cc); due_t = λ e. absurd (cc) }
 
-    in_relay : InRelay old at c t part_c rest_c part_t rest_t end_c end_t false false
+    in_relay : InRelay (socks users pubs) old at c t part_c rest_c part_t rest_t end_c end_t false false
     in_relay = record { begun = b; sums = k'; apart = ap (λ z. old.shut_c && z) open_t ∙ and-false old.shut_c }
 
     e : TurnEvent
@@ -293,7 +292,7 @@ finishes-t users pubs generation config cap h marks worker number now old at c t
     sends_t = sends-rest-t users pubs generation config cap h marks old at c t part_c rest_c part_t rest_t end_c end_t false false in_relay
 
 pub finishes : (users : List User) (pubs : List Config) (generation : ℕ) (config : Config) (cap : ℕ) (h : List Line) (marks : List StopBy) (worker number now : ℕ)
-    (old : Record) (at : Endpoint) (c t part_c rest_c part_t rest_t : List ℕ) (end_c end_t shut_c shut_t idle_c idle_t full_c full_t logged : Bool) → Begun old at
+    (old : Record) (at : Endpoint) (c t part_c rest_c part_t rest_t : List ℕ) (end_c end_t shut_c shut_t idle_c idle_t full_c full_t logged : Bool) → Begun (socks users pubs) old at
     → Sums old c t part_c rest_c part_t rest_t end_c end_t shut_c shut_t → old.since ≡ now → shut_c || old.shut_c ≡ true → shut_t || old.shut_t ≡ true
     → Finishes users pubs generation config cap h marks worker number now old c t part_c part_t end_c end_t shut_c shut_t idle_c idle_t full_c full_t logged
 finishes users pubs generation config cap h marks worker number now old at c t part_c rest_c part_t rest_t end_c end_t true shut_t idle_c idle_t full_c full_t logged b k same both_c both_t =

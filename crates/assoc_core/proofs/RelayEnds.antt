@@ -1,11 +1,10 @@
 -- How a turn in a relay of the first path ends.
-use Rattle.std.proofs.Common.{◌≡◌, ℕ, ◌-◌, ◌<◌, ◌⊎◌, inl, inr, Bool, true, false, ◌&&◌, ◌||◌, ◌==◌, not, if◌then◌else◌, nat_le, Option, Some, List, [], ◌∷◌, ◌++◌, refl, sym, ap, subst, ◌∙◌, length, drop, append_assoc, arith}
+use Rattle.std.proofs.Common.{◌≡◌, ℕ, zero, suc, ◌-◌, ◌<◌, ◌⊎◌, inl, inr, Bool, true, false, ◌&&◌, ◌||◌, ◌==◌, not, nat_le, Option, Some, List, [], ◌∷◌, ◌++◌, refl, sym, ap, subst, ◌∙◌, length, drop, append_assoc, arith}
 use Rattle.std.proofs.lemmas.Bool.{lt-leb}
 use Rattle.std.proofs.Math.Seq.{drop-append_seam}
 use Rattle.addr_pattern.specs.declared.endpoint.Endpoint.{Endpoint}
 use Rattle.conf_model.specs.declared.config.Config.{Config}
 use Rattle.conf_model.specs.declared.user.User.{User}
-use Rattle.conf_model.specs.Plain.{IsPlain}
 use Rattle.socks_machine.specs.declared.cause.Cause.{Cause}
 use Rattle.socks_machine.specs.declared.cause.StopBy.{StopBy}
 use Rattle.socks_machine.specs.declared.lines.Line.{Line}
@@ -24,13 +23,13 @@ use Rattle.socks_machine.specs.Relaying.{RelayFacts, Relaying, relayed}
 use Rattle.socks_machine.specs.Settle.{fix, first_cause, is_nothing}
 use Rattle.socks_machine.specs.Socks.{socks}
 use Rattle.socks_machine.specs.Taking.{holds}
-use Rattle.socks_machine.specs.Turn.{turn, aged, moves, quantum, took_quantum, rests, rests_in, sinks_rest, sources_rest, sides_rest, is_late, fault_fits, fault_cause, may_fail, may_write, has_pending, may_be_shut, reads_in, is_there}
+use Rattle.socks_machine.specs.Turn.{turn, aged, moves, quantum, took_quantum, rests, rests_in, sinks_rest, sources_rest, sides_rest, limit, is_late, fault_fits, fault_cause, may_fail, may_write, has_pending, may_be_shut, reads_in, is_there}
 use Rattle.socks_machine.proofs.RelayLaws.{relaying-reads, alike, began-same, relay-owes-caused}
 use Rattle.socks_machine.proofs.WaitLaws.{again, waits}
 use Rattle.socks_machine.proofs.StartLaws.{relay-fails}
 use Rattle.assoc_core.specs.Plain.{IsPlainRecord}
 use Rattle.assoc_core.specs.Turns.{Acts, event_of, context, links}
-use Rattle.assoc_core.proofs.PlainRecords.{decided-forms, plain-owes-client, plain-owes-target}
+use Rattle.assoc_core.proofs.PlainRecords.{and-false, decided-forms, plain-owes-client, plain-owes-target}
 use Rattle.assoc_core.proofs.RelayRecords.{plain-relay-facts}
 use Rattle.assoc_core.proofs.RelaySums.{Sums, summed, Begun, sum_acts, relays, sent-c, sent-t, sums-carried}
 
@@ -45,19 +44,13 @@ pub aged-same : (basis : Basis) (e : TurnEvent) (old r : Record) → r.since ≡
 aged-same basis e old r h = λ i. record r { since = since-same (began basis r && (not (began basis old) || moves e)) e.now r.since h i }
 
 -- nothing is late at the moment of the last turn
-pub never-late : (basis : Basis) (k : Config) (now : ℕ) (r : Record) → IsPlain k → r.since ≡ now → is_late basis k now r ≡ false
-never-late basis k now r plain same = by-limit (began basis r)
+pub never-late : (basis : Basis) (k : Config) (now : ℕ) (r : Record) → r.since ≡ now → is_late basis k now r ≡ false
+never-late basis k now r same = early (limit basis k r)
   where
-    early : (n : ℕ) → 0 < n → not (n == 0) && nat_le n (now - r.since) ≡ false
-    early n h = ap (λ z. not (n == 0) && z) (lt-leb n (now - r.since) (omega (arith, same, h))) ∙ and-false (not (n == 0))
-      where
-        and-false : (b : Bool) → b && false ≡ false
-        and-false true = refl
-        and-false false = refl
-
-    by-limit : (b : Bool) → not ((if b then k.io else k.negotiate) == 0) && nat_le (if b then k.io else k.negotiate) (now - r.since) ≡ false
-    by-limit true = ap (λ n. not (n == 0) && nat_le n (now - r.since)) plain.io
-    by-limit false = early k.negotiate plain.negotiate
+    -- a limit of 0 is none
+    early : (n : ℕ) → not (n == 0) && nat_le n (now - r.since) ≡ false
+    early zero = refl
+    early (suc n) = ap (λ b. not (suc n == 0) && b) (lt-leb (suc n) (now - r.since) (omega (arith, same))) ∙ and-false (not (suc n == 0))
 
 -- ---- NotYet
 
@@ -90,42 +83,42 @@ drop-sent sent rest owed h = ap (drop (length sent)) (sym h) ∙ drop-append_sea
 -- ---- the relay in hand
 
 -- A turn of a relay in sums, in a context of the first path, where not both sides are shut.
-pub record InRelay (old : Record) (at : Endpoint) (c t part_c rest_c part_t rest_t : List ℕ) (end_c end_t shut_c shut_t : Bool) : Type 0 where
-  pub begun : Begun old at
+pub record InRelay (basis : Basis) (old : Record) (at : Endpoint) (c t part_c rest_c part_t rest_t : List ℕ) (end_c end_t shut_c shut_t : Bool) : Type 0 where
+  pub begun : Begun basis old at
   pub sums : Sums old c t part_c rest_c part_t rest_t end_c end_t shut_c shut_t
   pub apart : (shut_c || old.shut_c) && (shut_t || old.shut_t) ≡ false
 
-in-facts : (users : List User) (pubs : List Config) (generation : ℕ) (config : Config) (cap : ℕ) (h : List Line) (marks : List StopBy) (old : Record) (at : Endpoint) → Begun old at
+in-facts : (users : List User) (pubs : List Config) (generation : ℕ) (config : Config) (cap : ℕ) (h : List Line) (marks : List StopBy) (old : Record) (at : Endpoint) → Begun (socks users pubs) old at
     → RelayFacts (context users pubs generation config cap h marks) old
-in-facts users pubs generation config cap h marks old at b = plain-relay-facts users pubs generation config cap h marks old at b.plain b.reaches b.uncaused
+in-facts users pubs generation config cap h marks old at b = plain-relay-facts users pubs generation config cap h marks old at b.plain b.reaches b.uncaused b.direct
 
-pub in-phase : (users : List User) (pubs : List Config) (generation : ℕ) (config : Config) (cap : ℕ) (h : List Line) (marks : List StopBy) (old : Record) (at : Endpoint) (c t : List ℕ) (end_c end_t : Bool) → Begun old at
+pub in-phase : (users : List User) (pubs : List Config) (generation : ℕ) (config : Config) (cap : ℕ) (h : List Line) (marks : List StopBy) (old : Record) (at : Endpoint) (c t : List ℕ) (end_c end_t : Bool) → Begun (socks users pubs) old at
     → phase (socks users pubs) (record old { c = old.c ++ c; t = old.t ++ t; end_c = end_c; end_t = end_t }) ≡ Phase.Relay
 in-phase users pubs generation config cap h marks old at c t end_c end_t b =
     let f = in-facts users pubs generation config cap h marks old at b in
     alike (socks users pubs) old (old.c ++ c) (old.t ++ t) end_c end_t f.direct (f.whole c) ∙ f.relays
 
 pub owes-c : (users : List User) (pubs : List Config) (old : Record) (at : Endpoint) (c t part_c rest_c part_t rest_t : List ℕ) (end_c end_t shut_c shut_t : Bool) (cause : Option Cause)
-    → InRelay old at c t part_c rest_c part_t rest_t end_c end_t shut_c shut_t
+    → InRelay (socks users pubs) old at c t part_c rest_c part_t rest_t end_c end_t shut_c shut_t
     → (old.sent_c ++ part_c) ++ rest_c ≡ owed_to_client (socks users pubs) (summed old c t part_c part_t end_c end_t shut_c shut_t cause)
 owes-c users pubs old at c t part_c rest_c part_t rest_t end_c end_t shut_c shut_t cause k =
     sent-c old at c t part_c rest_c part_t rest_t end_c end_t shut_c shut_t cause k.begun k.sums
     ∙ sym (plain-owes-client users pubs (summed old c t part_c part_t end_c end_t shut_c shut_t cause)
-    (sums-carried old at c t part_c rest_c part_t rest_t end_c end_t shut_c shut_t cause k.begun k.sums k.apart))
+    (sums-carried old at c t part_c rest_c part_t rest_t end_c end_t shut_c shut_t cause k.begun k.sums k.apart) k.begun.direct)
 
 pub owes-t : (users : List User) (pubs : List Config) (old : Record) (at : Endpoint) (c t part_c rest_c part_t rest_t : List ℕ) (end_c end_t shut_c shut_t : Bool) (cause : Option Cause)
-    → InRelay old at c t part_c rest_c part_t rest_t end_c end_t shut_c shut_t
+    → InRelay (socks users pubs) old at c t part_c rest_c part_t rest_t end_c end_t shut_c shut_t
     → (old.sent_t ++ part_t) ++ rest_t ≡ owed_to_target (socks users pubs) (summed old c t part_c part_t end_c end_t shut_c shut_t cause)
 owes-t users pubs old at c t part_c rest_c part_t rest_t end_c end_t shut_c shut_t cause k =
     sent-t old at c t part_c rest_c part_t rest_t end_c end_t shut_c shut_t cause k.begun k.sums
     ∙ sym (plain-owes-target users pubs (summed old c t part_c part_t end_c end_t shut_c shut_t cause)
-    (sums-carried old at c t part_c rest_c part_t rest_t end_c end_t shut_c shut_t cause k.begun k.sums k.apart))
+    (sums-carried old at c t part_c rest_c part_t rest_t end_c end_t shut_c shut_t cause k.begun k.sums k.apart) k.begun.direct)
 
 -- ---- it goes on
 
 pub goes-again : (users : List User) (pubs : List Config) (generation : ℕ) (config : Config) (cap : ℕ) (h : List Line) (marks : List StopBy) (worker number now : ℕ)
     (old : Record) (at : Endpoint) (c t part_c rest_c part_t rest_t : List ℕ) (end_c end_t shut_c shut_t idle_c idle_t full_c full_t : Bool)
-    → InRelay old at c t part_c rest_c part_t rest_t end_c end_t shut_c shut_t → old.since ≡ now
+    → InRelay (socks users pubs) old at c t part_c rest_c part_t rest_t end_c end_t shut_c shut_t → old.since ≡ now
     → nat_le quantum (length c) || nat_le quantum (length t) ≡ true
     → turn (context users pubs generation config cap h marks) (event_of worker number now (sum_acts c t part_c part_t end_c end_t shut_c shut_t idle_c idle_t full_c full_t) NextMark.Again) old
     ≡ Some (record { left = summed old c t part_c part_t end_c end_t shut_c shut_t old.cause; h = h; marks = marks })
@@ -162,14 +155,14 @@ pub record Resting (old : Record) (rest_c rest_t : List ℕ) (end_c end_t shut_c
 
 pub goes-waiting : (users : List User) (pubs : List Config) (generation : ℕ) (config : Config) (cap : ℕ) (h : List Line) (marks : List StopBy) (worker number now : ℕ)
     (old : Record) (at : Endpoint) (c t part_c rest_c part_t rest_t : List ℕ) (end_c end_t shut_c shut_t idle_c idle_t full_c full_t : Bool)
-    → InRelay old at c t part_c rest_c part_t rest_t end_c end_t shut_c shut_t → IsPlain config → old.since ≡ now
+    → InRelay (socks users pubs) old at c t part_c rest_c part_t rest_t end_c end_t shut_c shut_t → old.since ≡ now
     → nat_le quantum (length c) || nat_le quantum (length t) ≡ false → Resting old rest_c rest_t end_c end_t shut_c shut_t idle_c idle_t full_c full_t
     → turn (context users pubs generation config cap h marks) (event_of worker number now (sum_acts c t part_c part_t end_c end_t shut_c shut_t idle_c idle_t full_c full_t) NextMark.Wait) old
     ≡ Some (record { left = summed old c t part_c part_t end_c end_t shut_c shut_t old.cause; h = h; marks = marks })
-goes-waiting users pubs generation config cap h marks worker number now old at c t part_c rest_c part_t rest_t end_c end_t shut_c shut_t idle_c idle_t full_c full_t k config-plain same took y =
+goes-waiting users pubs generation config cap h marks worker number now old at c t part_c rest_c part_t rest_t end_c end_t shut_c shut_t idle_c idle_t full_c full_t k same took y =
     waits s old e (relayed old c t end_c end_t) x (relaying-reads s old e x going) k.begun.uncaused none
     (subst (λ (z : Record). rests s.basis e z ≡ true) (sym (aged-same s.basis e old x same)) resting)
-    (subst (λ (z : Record). is_late s.basis s.config now z ≡ false) (sym (aged-same s.basis e old x same)) (never-late s.basis config now x config-plain same))
+    (subst (λ (z : Record). is_late s.basis s.config now z ≡ false) (sym (aged-same s.basis e old x same)) (never-late s.basis config now x same))
     ∙ (λ i. Some (record { left = record (aged-same s.basis e old x same i) { done = sym k.begun.plain.undone i }; h = h; marks = marks }))
   where
     s : Context
@@ -238,8 +231,8 @@ pub opened-by : (r : Record) (at : Endpoint) → IsPlainRecord r → reached_at 
 opened-by r at plain reaches = decided-forms r (λ ds. reached_at ds ≡ Some at → is_opened ds ≡ true) (record {
   nothing = λ fresh' k. absurd (cc);
   opened' = λ g rule d k. refl;
-  granted' = λ g rule g' facts verdict refused d k. refl;
-  reached' = λ g rule g' facts verdict to at' d k. refl;
+  granted' = λ g rule g' facts verdict route refused d k. refl;
+  reached' = λ g rule g' facts verdict route to at' d k. refl;
 }) r.decisions plain.decided reaches
 
 -- a call on one side fails where that side is read, has something pending, or is to be shut
@@ -285,8 +278,8 @@ FailsOn Object.Target old rest_c rest_t ended_c ended_t = FailsSide ended_t rest
 FailsOn _ old rest_c rest_t ended_c ended_t = ⊥
 
 -- a turn of a relay in which a call failed
-pub record InFault (old : Record) (at : Endpoint) (c t part_c rest_c part_t rest_t : List ℕ) (end_c end_t shut_c shut_t : Bool) (o : Object) (unwritten : Bool) : Type 0 where
-  pub relay : InRelay old at c t part_c rest_c part_t rest_t end_c end_t shut_c shut_t
+pub record InFault (basis : Basis) (old : Record) (at : Endpoint) (c t part_c rest_c part_t rest_t : List ℕ) (end_c end_t shut_c shut_t : Bool) (o : Object) (unwritten : Bool) : Type 0 where
+  pub relay : InRelay basis old at c t part_c rest_c part_t rest_t end_c end_t shut_c shut_t
   pub fails : FailsOn o old rest_c rest_t (end_c || old.end_c) (end_t || old.end_t)
   pub writes : unwritten ≡ true → (0 < length rest_c) ⊎ (0 < length rest_t)
 
@@ -299,7 +292,7 @@ pub record Failed (s : Context) (old : Record) (e : TurnEvent) (a x : Record) (c
 
 pub fails : (users : List User) (pubs : List Config) (generation : ℕ) (config : Config) (cap : ℕ) (h : List Line) (marks : List StopBy) (worker number now : ℕ)
     (old : Record) (at : Endpoint) (c t part_c rest_c part_t rest_t : List ℕ) (end_c end_t shut_c shut_t idle_c idle_t full_c full_t : Bool) (o : Object) (unwritten : Bool)
-    → InFault old at c t part_c rest_c part_t rest_t end_c end_t shut_c shut_t o unwritten
+    → InFault (socks users pubs) old at c t part_c rest_c part_t rest_t end_c end_t shut_c shut_t o unwritten
     → Failed (context users pubs generation config cap h marks) old
     (event_of worker number now (fault_acts (sum_acts c t part_c part_t end_c end_t shut_c shut_t idle_c idle_t full_c full_t) o unwritten Outer.Nothing) NextMark.Going)
     (relayed old c t end_c end_t) (summed old c t part_c part_t end_c end_t shut_c shut_t (Some (fault_cause o))) (fault_cause o)

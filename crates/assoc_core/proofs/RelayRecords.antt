@@ -1,5 +1,5 @@
 -- The records of a relay of the first path: what the definitions say of them, and that a turn keeps their form.
-use Rattle.std.proofs.Common.{◌≡◌, ℕ, ◌≤◌, Bool, true, false, ◌&&◌, ◌==◌, Option, Some, None, List, [], ◌∷◌, ◌++◌, refl, sym, ap, subst, ◌∙◌, length, arith}
+use Rattle.std.proofs.Common.{◌≡◌, ℕ, ◌≤◌, Bool, true, false, ◌&&◌, ◌==◌, Option, Some, None, List, [], ◌∷◌, ◌++◌, refl, sym, ap, subst, ◌∙◌, length, option_and_then, arith}
 use Rattle.std.proofs.lemmas.List.{append-nil}
 use mathlib.Core.List.{IsPrefix}
 use Rattle.addr_pattern.specs.declared.endpoint.Endpoint.{Endpoint}
@@ -18,19 +18,19 @@ use Rattle.socks_machine.specs.declared.record.Chosen.{Chosen}
 use Rattle.socks_machine.specs.declared.record.Decision.{Decision}
 use Rattle.socks_machine.specs.declared.record.Record.{Record}
 use Rattle.socks_machine.specs.Calls.{Context}
-use Rattle.socks_machine.specs.Decisions.{reached_at}
+use Rattle.socks_machine.specs.Decisions.{granted, reached_at}
 use Rattle.socks_machine.specs.Front.{Proxy}
 use Rattle.socks_machine.specs.Owed.{has_target, target_by}
 use Rattle.socks_machine.specs.Phase.{way, began_by, relay_began, prelude_length, is_udp}
 use Rattle.socks_machine.specs.Relaying.{RelayFacts}
 use Rattle.socks_machine.specs.Served.{is_served_input, is_whole_input}
 use Rattle.socks_machine.specs.Socks.{socks}
-use Rattle.socks_machine.specs.View.{outcome_with}
+use Rattle.socks_machine.specs.View.{outcome_with, proxy_in, proxy_of, proxy_of_grant}
 use Rattle.socks_machine.proofs.SocksRelay.{relay-facts}
 use Rattle.assoc_core.specs.Plain.{IsPlainRecord, HasChosen, HasDecided, Dialled, owed_c, owed_t, plain_to_client, is_greeted, prelude}
 use Rattle.assoc_core.specs.Preludes.{IsConnect}
 use Rattle.assoc_core.specs.Turns.{context}
-use Rattle.assoc_core.proofs.PlainRecords.{decided-forms, no-proxy, direct_grant, whole-connect, connect-length, relay-phase}
+use Rattle.assoc_core.proofs.PlainRecords.{decided-forms, passed_grant, whole-connect, connect-length, relay-phase}
 
 -- ---- the client's bytes behind a whole request
 
@@ -102,24 +102,24 @@ is-relayed r at h reaches = record { facts = found.0; dialled = found.1; to = re
     found = decided-forms r (RelayedBy r at) (record {
       nothing = λ fresh' k. absurd (cc);
       opened' = λ g rule d k. absurd (cc);
-      granted' = λ g rule g' facts verdict refused d k. absurd (cc);
-      reached' = λ g rule g' facts verdict to at' d k. (facts, subst (λ (z : Option Endpoint). Dialled r facts z) k d);
+      granted' = λ g rule g' facts verdict route refused d k. absurd (cc);
+      reached' = λ g rule g' facts verdict route to at' d k. (facts, subst (λ (z : Option Endpoint). Dialled r facts z) k d);
     }) r.decisions h.decided reaches
 
     request : (to : Endpoint) × IsConnect r.c to
     request = whole-connect r.c h.served found.1.whole found.1.version
 
 abbrev FactsBy : Context → Record → List Decision → Type 0
-FactsBy s r ds = (at : Endpoint) → reached_at ds ≡ Some at → RelayFacts s (record r { decisions = ds })
+FactsBy s r ds = option_and_then (proxy_of_grant s.basis) (granted ds) ≡ None → (at : Endpoint) → reached_at ds ≡ Some at → RelayFacts s (record r { decisions = ds })
 
 pub plain-relay-facts : (users : List User) (pubs : List Config) (generation : ℕ) (config : Config) (cap : ℕ) (h : List Line) (marks : List StopBy) (r : Record) (at : Endpoint)
-    → IsPlainRecord r → reached_at r.decisions ≡ Some at → r.cause ≡ None → RelayFacts (context users pubs generation config cap h marks) r
-plain-relay-facts users pubs generation config cap h marks r at plain reaches uncaused = decided-forms r (FactsBy s r) (record {
-  nothing = λ fresh' at k. absurd (cc);
-  opened' = λ g rule d at k. absurd (cc);
-  granted' = λ g rule g' facts verdict refused d at k. absurd (cc);
-  reached' = λ g rule g' facts verdict to at' d at k. up g rule g' facts verdict to at (subst (λ (z : Option Endpoint). Dialled r facts z) k d) at' k;
-}) r.decisions plain.decided at reaches
+    → IsPlainRecord r → reached_at r.decisions ≡ Some at → r.cause ≡ None → proxy_of (socks users pubs) r ≡ None → RelayFacts (context users pubs generation config cap h marks) r
+plain-relay-facts users pubs generation config cap h marks r at plain reaches uncaused direct = decided-forms r (FactsBy s r) (record {
+  nothing = λ fresh' direct' at k. absurd (cc);
+  opened' = λ g rule d direct' at k. absurd (cc);
+  granted' = λ g rule g' facts verdict route refused d direct' at k. absurd (cc);
+  reached' = λ g rule g' facts verdict route to at' d direct' at k. up g rule g' facts verdict route to at (subst (λ (z : Option Endpoint). Dialled r facts z) k d) direct' at' k;
+}) r.decisions plain.decided direct at reaches
   where
     s : Context
     s = context users pubs generation config cap h marks
@@ -127,20 +127,20 @@ plain-relay-facts users pubs generation config cap h marks r at plain reaches un
     chosen : (chosen : Chosen) × (r.chosen ≡ Some chosen) × (chosen.method ≡ 0)
     chosen = let k = is-relayed r at plain reaches in chosen-one r.c r.chosen plain.chosen' (subst (λ (z : List ℕ). is_greeted z ≡ true) (append-nil r.c) (connect-greeted r.c [] k.to k.connects))
 
-    up : (g : ℕ) (rule : Option ℕ) (g' : ℕ) (facts : Facts) (verdict : Verdict) (to at : Endpoint) → Dialled r facts (Some at) → (at' : Option Endpoint) → at' ≡ Some at
-        → RelayFacts s (record r { decisions = Decision.Opened g rule None ∷ Decision.Granted g' facts verdict None None ∷ Decision.Reached to at' ∷ [] })
-    up g rule g' facts verdict to at d at' is = subst (λ (z : Option Endpoint). RelayFacts s (record r { decisions = Decision.Opened g rule None ∷ Decision.Granted g' facts verdict None None ∷ Decision.Reached to z ∷ [] })) (sym is)
-        (relay-facts s x chosen.0 refl (relay-phase users pubs r g rule g' facts verdict to at plain.undone uncaused plain.served plain.chosen' d)
-        (no-proxy (numbered pubs g')) began there plain.grams plain.sent_u chosen.1 (ap (λ m. m == 2) chosen.2) long)
+    up : (g : ℕ) (rule : Option ℕ) (g' : ℕ) (facts : Facts) (verdict : Verdict) (route : Option ℕ) (to at : Endpoint) → Dialled r facts (Some at) → proxy_in route (numbered pubs g') ≡ None → (at' : Option Endpoint) → at' ≡ Some at
+        → RelayFacts s (record r { decisions = Decision.Opened g rule None ∷ Decision.Granted g' facts verdict route None ∷ Decision.Reached to at' ∷ [] })
+    up g rule g' facts verdict route to at d direct' at' is = subst (λ (z : Option Endpoint). RelayFacts s (record r { decisions = Decision.Opened g rule None ∷ Decision.Granted g' facts verdict route None ∷ Decision.Reached to z ∷ [] })) (sym is)
+        (relay-facts s x chosen.0 refl (relay-phase users pubs r g rule g' facts verdict route to at plain.undone uncaused plain.served plain.chosen' d direct')
+        direct' began there plain.grams plain.sent_u chosen.1 (ap (λ m. m == 2) chosen.2) long)
       where
         x : Record
-        x = record r { decisions = Decision.Opened g rule None ∷ Decision.Granted g' facts verdict None None ∷ Decision.Reached to (Some at) ∷ [] }
+        x = record r { decisions = Decision.Opened g rule None ∷ Decision.Granted g' facts verdict route None ∷ Decision.Reached to (Some at) ∷ [] }
 
         request : (to : Endpoint) × IsConnect r.c to
         request = whole-connect r.c plain.served d.whole d.version
 
         began : relay_began (socks users pubs) x ≡ true
-        began = ap (λ (p : Option Proxy). began_by facts.command (way (Some at) (outcome_with r.t (direct_grant g' facts verdict) p)) None) (no-proxy (numbered pubs g'))
+        began = ap (λ (p : Option Proxy). began_by facts.command (way (Some at) (outcome_with r.t (passed_grant g' facts verdict route) p)) None) direct'
             ∙ ap (λ (k : Command). began_by k (Some at) None) d.command
 
         there : has_target x ≡ true
@@ -186,8 +186,8 @@ carried-plain old at c t end_c end_t sent_c sent_t shut_c shut_t cause plain rea
   decided = decided-forms old (λ ds. reached_at ds ≡ Some at → HasDecided x ds) (record {
     nothing = λ fresh' e. absurd (cc);
     opened' = λ g rule d e. absurd (cc);
-    granted' = λ g rule g' facts verdict refused d e. absurd (cc);
-    reached' = λ g rule g' facts verdict to at' d e. subst (λ (z : Option Endpoint). HasDecided x (Decision.Opened g rule None ∷ Decision.Granted g' facts verdict None None ∷ Decision.Reached to z ∷ [])) (sym e) (dialled facts d.command);
+    granted' = λ g rule g' facts verdict route refused d e. absurd (cc);
+    reached' = λ g rule g' facts verdict route to at' d e. subst (λ (z : Option Endpoint). HasDecided x (Decision.Opened g rule None ∷ Decision.Granted g' facts verdict route None ∷ Decision.Reached to z ∷ [])) (sym e) (dialled facts d.command);
   }) old.decisions plain.decided reaches;
   sent_c = k.sent_c;
   sent_t = k.sent_t;
@@ -225,8 +225,8 @@ pub plain-tcp : (r : Record) → IsPlainRecord r → is_udp r ≡ false
 plain-tcp r plain = decided-forms r (λ ds. is_udp (record r { decisions = ds }) ≡ false) (record {
   nothing = λ fresh'. refl;
   opened' = λ g rule d. refl;
-  granted' = λ g rule g' facts verdict refused d. by-command facts.command d.command;
-  reached' = λ g rule g' facts verdict to at d. by-command facts.command d.command;
+  granted' = λ g rule g' facts verdict route refused d. by-command facts.command d.command;
+  reached' = λ g rule g' facts verdict route to at d. by-command facts.command d.command;
 }) r.decisions plain.decided
   where
     by-command : (k : Command) → k ≡ Command.Connect → (elim k [ Command.UdpAssociate ↦ true | _ ↦ false ]) ≡ false

@@ -16,11 +16,13 @@ use Rattle.socks_machine.specs.declared.record.Chosen.{Chosen}
 use Rattle.socks_machine.specs.declared.record.Record.{Record}
 use Rattle.socks_machine.specs.declared.world.NextMark.{NextMark}
 use Rattle.socks_machine.specs.declared.world.Outer.{Outer}
+use Rattle.socks_machine.specs.Basis.{Basis}
 use Rattle.socks_machine.specs.Calls.{Context}
 use Rattle.socks_machine.specs.Decisions.{reached_at}
 use Rattle.socks_machine.specs.Relaying.{RelayFacts, Relaying, MayTake, due_c, due_t}
-use Rattle.socks_machine.specs.Socks.{chosen_reply, success}
+use Rattle.socks_machine.specs.Socks.{socks, chosen_reply, success}
 use Rattle.socks_machine.specs.Taking.{some_in}
+use Rattle.socks_machine.specs.View.{proxy_of}
 use Rattle.socks_machine.proofs.RelayLaws.{relay-owes-c, relay-owes-t}
 use Rattle.socks_machine.proofs.TakeLaws.{nothing-in}
 use Rattle.assoc_core.specs.Plain.{IsPlainRecord, owed_c, owed_t, plain_to_client, plain_to_target, prelude}
@@ -68,10 +70,11 @@ summed old c t part_c part_t end_c end_t shut_c shut_t cause =
     carried old c t (end_c || old.end_c) (end_t || old.end_t) (old.sent_c ++ part_c) (old.sent_t ++ part_t) (shut_c || old.shut_c) (shut_t || old.shut_t) cause
 
 -- a relay of the first path, without a cause
-pub record Begun (old : Record) (at : Endpoint) : Type 0 where
+pub record Begun (basis : Basis) (old : Record) (at : Endpoint) : Type 0 where
   pub plain : IsPlainRecord old
   pub reaches : reached_at old.decisions ≡ Some at
   pub uncaused : old.cause ≡ None
+  pub direct : proxy_of basis old ≡ None
 
 -- what is owed to the client, closed
 closed-c : (c t : List ℕ) (chosen : Option Chosen) (reaches : Option Endpoint) (at : Endpoint) (cause : Option Cause) → reaches ≡ Some at
@@ -81,7 +84,7 @@ closed-c c t chosen reaches at cause h = ap (λ z. plain_to_client c t chosen z 
     arranged : (o s t : List ℕ) → o ++ (s ++ (t ++ [])) ≡ (o ++ s) ++ t
     arranged o s t = simp (append-nil, append_assoc)
 
-closed-more : (old : Record) (at : Endpoint) (c t : List ℕ) (cause : Option Cause) → Begun old at
+closed-more : {basis : Basis} (old : Record) (at : Endpoint) (c t : List ℕ) (cause : Option Cause) → Begun basis old at
     → plain_to_client old.c old.t old.chosen (reached_at old.decisions) old.cause ++ t ≡ plain_to_client (old.c ++ c) (old.t ++ t) old.chosen (reached_at old.decisions) cause
 closed-more old at c t cause b =
     ap (λ z. z ++ t) (closed-c old.c old.t old.chosen (reached_at old.decisions) at old.cause b.reaches)
@@ -95,7 +98,7 @@ closed-more old at c t cause b =
 pub prefix-on : (xs ys zs more : List ℕ) → IsPrefix xs ys → ys ++ more ≡ zs → IsPrefix xs zs
 prefix-on xs ys zs more h k = (h.0 ++ more, sym (append_assoc xs h.0 more) ∙ (ap (λ z. z ++ more) h.1 ∙ k))
 
-pub sent-c : (old : Record) (at : Endpoint) (c t part_c rest_c part_t rest_t : List ℕ) (end_c end_t shut_c shut_t : Bool) (cause : Option Cause) → Begun old at
+pub sent-c : {basis : Basis} (old : Record) (at : Endpoint) (c t part_c rest_c part_t rest_t : List ℕ) (end_c end_t shut_c shut_t : Bool) (cause : Option Cause) → Begun basis old at
     → Sums old c t part_c rest_c part_t rest_t end_c end_t shut_c shut_t
     → (old.sent_c ++ part_c) ++ rest_c ≡ owed_c (summed old c t part_c part_t end_c end_t shut_c shut_t cause)
 sent-c old at c t part_c rest_c part_t rest_t end_c end_t shut_c shut_t cause b k =
@@ -106,7 +109,7 @@ sent-c old at c t part_c rest_c part_t rest_t end_c end_t shut_c shut_t cause b 
 drop-more : (n : ℕ) (xs ys : List ℕ) → n ≤ length xs → drop n xs ++ ys ≡ drop n (xs ++ ys)
 drop-more n xs ys h = sym (drop-append-le n xs ys h)
 
-pub sent-t : (old : Record) (at : Endpoint) (c t part_c rest_c part_t rest_t : List ℕ) (end_c end_t shut_c shut_t : Bool) (cause : Option Cause) → Begun old at
+pub sent-t : {basis : Basis} (old : Record) (at : Endpoint) (c t part_c rest_c part_t rest_t : List ℕ) (end_c end_t shut_c shut_t : Bool) (cause : Option Cause) → Begun basis old at
     → Sums old c t part_c rest_c part_t rest_t end_c end_t shut_c shut_t
     → (old.sent_t ++ part_t) ++ rest_t ≡ owed_t (summed old c t part_c part_t end_c end_t shut_c shut_t cause)
 sent-t old at c t part_c rest_c part_t rest_t end_c end_t shut_c shut_t cause b k =
@@ -117,7 +120,7 @@ sent-t old at c t part_c rest_c part_t rest_t end_c end_t shut_c shut_t cause b 
     relayed = is-relayed old at b.plain b.reaches
 
 -- a shut side was sent all, of a side that has ended
-pub shut-c : (old : Record) (at : Endpoint) (c t part_c rest_c part_t rest_t : List ℕ) (end_c end_t shut_c shut_t : Bool) → Begun old at
+pub shut-c : {basis : Basis} (old : Record) (at : Endpoint) (c t part_c rest_c part_t rest_t : List ℕ) (end_c end_t shut_c shut_t : Bool) → Begun basis old at
     → Sums old c t part_c rest_c part_t rest_t end_c end_t shut_c shut_t → shut_c || old.shut_c ≡ true → (end_t || old.end_t ≡ true) × (rest_c ≡ [])
 shut-c old at c t part_c rest_c part_t rest_t end_c end_t true shut_t b k h = k.due_c refl
 shut-c old at c t part_c rest_c part_t rest_t end_c end_t false shut_t b k h = (or-right end_t old.end_t before.0, none-left old.sent_c part_c rest_c (owed_c x) (sent-c old at c t part_c rest_c part_t rest_t end_c end_t false shut_t old.cause b k) (before.1 ∙ same))
@@ -139,7 +142,7 @@ shut-c old at c t part_c rest_c part_t rest_t end_c end_t false shut_t b k h = (
     same : owed_c old ≡ owed_c x
     same = sym (append-nil (owed_c old)) ∙ (ap (λ z. owed_c old ++ z) (sym (nothing-in t (unsome (some_in t) k.may_t.bytes))) ∙ closed-more old at c t old.cause b)
 
-pub shut-t : (old : Record) (at : Endpoint) (c t part_c rest_c part_t rest_t : List ℕ) (end_c end_t shut_c shut_t : Bool) → Begun old at
+pub shut-t : {basis : Basis} (old : Record) (at : Endpoint) (c t part_c rest_c part_t rest_t : List ℕ) (end_c end_t shut_c shut_t : Bool) → Begun basis old at
     → Sums old c t part_c rest_c part_t rest_t end_c end_t shut_c shut_t → shut_t || old.shut_t ≡ true → (end_c || old.end_c ≡ true) × (rest_t ≡ [])
 shut-t old at c t part_c rest_c part_t rest_t end_c end_t shut_c true b k h = k.due_t refl
 shut-t old at c t part_c rest_c part_t rest_t end_c end_t shut_c false b k h = (or-right end_c old.end_c before.0, none-left old.sent_t part_t rest_t (owed_t x) (sent-t old at c t part_c rest_c part_t rest_t end_c end_t shut_c false old.cause b k) (before.1 ∙ same))
@@ -161,7 +164,7 @@ shut-t old at c t part_c rest_c part_t rest_t end_c end_t shut_c false b k h = (
     same : owed_t old ≡ owed_t x
     same = ap (λ z. plain_to_target z (reached_at old.decisions)) (sym (append-nil old.c) ∙ ap (λ z. old.c ++ z) (sym (nothing-in c (unsome (some_in c) k.may_c.bytes))))
 
-pub sums-carried : (old : Record) (at : Endpoint) (c t part_c rest_c part_t rest_t : List ℕ) (end_c end_t shut_c shut_t : Bool) (cause : Option Cause) → Begun old at
+pub sums-carried : {basis : Basis} (old : Record) (at : Endpoint) (c t part_c rest_c part_t rest_t : List ℕ) (end_c end_t shut_c shut_t : Bool) (cause : Option Cause) → Begun basis old at
     → Sums old c t part_c rest_c part_t rest_t end_c end_t shut_c shut_t → (shut_c || old.shut_c) && (shut_t || old.shut_t) ≡ false
     → IsPlainRecord (summed old c t part_c part_t end_c end_t shut_c shut_t cause)
 sums-carried old at c t part_c rest_c part_t rest_t end_c end_t shut_c shut_t cause b k apart =
@@ -202,7 +205,7 @@ sum_acts c t part_c part_t end_c end_t shut_c shut_t idle_c idle_t full_c full_t
 }
 
 pub relays : (users : List User) (pubs : List Config) (generation : ℕ) (config : Config) (cap : ℕ) (h : List Line) (marks : List StopBy) (worker number now : ℕ)
-    (old : Record) (at : Endpoint) (c t part_c rest_c part_t rest_t : List ℕ) (end_c end_t shut_c shut_t idle_c idle_t full_c full_t : Bool) → Begun old at
+    (old : Record) (at : Endpoint) (c t part_c rest_c part_t rest_t : List ℕ) (end_c end_t shut_c shut_t idle_c idle_t full_c full_t : Bool) → Begun (socks users pubs) old at
     → Sums old c t part_c rest_c part_t rest_t end_c end_t shut_c shut_t → (shut_c || old.shut_c) && (shut_t || old.shut_t) ≡ false
     → Relaying (context users pubs generation config cap h marks) old
     (event_of worker number now (sum_acts c t part_c part_t end_c end_t shut_c shut_t idle_c idle_t full_c full_t) NextMark.Going)
@@ -229,7 +232,7 @@ relays users pubs generation config cap h marks worker number now old at c t par
     s = context users pubs generation config cap h marks
 
     facts : RelayFacts s old
-    facts = plain-relay-facts users pubs generation config cap h marks old at b.plain b.reaches b.uncaused
+    facts = plain-relay-facts users pubs generation config cap h marks old at b.plain b.reaches b.uncaused b.direct
 
     x : Record
     x = summed old c t part_c part_t end_c end_t shut_c shut_t old.cause
@@ -239,8 +242,8 @@ relays users pubs generation config cap h marks worker number now old at c t par
 
     sends_c : (old.sent_c ++ part_c) ++ rest_c ≡ due_c s old t
     sends_c = sent-c old at c t part_c rest_c part_t rest_t end_c end_t shut_c shut_t old.cause b k
-        ∙ (sym (plain-owes-client users pubs x plain) ∙ relay-owes-c s old c t (end_c || old.end_c) (end_t || old.end_t) facts)
+        ∙ (sym (plain-owes-client users pubs x plain b.direct) ∙ relay-owes-c s old c t (end_c || old.end_c) (end_t || old.end_t) facts)
 
     sends_t : (old.sent_t ++ part_t) ++ rest_t ≡ due_t s old c
     sends_t = sent-t old at c t part_c rest_c part_t rest_t end_c end_t shut_c shut_t old.cause b k
-        ∙ (sym (plain-owes-target users pubs x plain) ∙ relay-owes-t s old c t (end_c || old.end_c) (end_t || old.end_t) facts)
+        ∙ (sym (plain-owes-target users pubs x plain b.direct) ∙ relay-owes-t s old c t (end_c || old.end_c) (end_t || old.end_t) facts)

@@ -20,6 +20,7 @@ use Rattle.socks_machine.specs.InTurn.{Takes, takings}
 use Rattle.socks_machine.specs.Owed.{owed_to_client, owed_to_target, waiting_for_target, waiting_for_client, replies_in, has_target, refusal_of_in}
 use Rattle.socks_machine.specs.Phase.{Phase, phase, relay_began, relay_began_in, client_payload_in, target_payload_in}
 use Rattle.socks_machine.specs.Relaying.{RelayFacts, relayed}
+use Rattle.socks_machine.specs.Socks.{socks}
 use Rattle.socks_machine.specs.Script.{without_ends}
 use Rattle.socks_machine.specs.Taking.{reads_client, reads_target, pipe_size}
 use Rattle.socks_machine.specs.Turn.{turn}
@@ -140,25 +141,25 @@ desk-outer net p _ h = absurd h
 -- ---- the turn
 
 -- one pass over a relay, between an association that stands for its record and the answer
-pub record RelayTurn {L : Type 0} (told : L → Told) (counts : L → Counts) (a : Assoc L) (next : Next L) (pass : Pass) : Type 0 where
+pub record RelayTurn {L : Type 0} (told : L → Told) (counts : L → Counts) (basis : Basis) (a : Assoc L) (next : Next L) (pass : Pass) : Type 0 where
   pub link : L
   pub link' : L
   pub at : Endpoint
   pub new : Record
-  pub stands : Stands told a
-  pub begun : Begun a.state at
+  pub stands : Stands told basis a
+  pub begun : Begun basis a.state at
   pub target : a.target ≡ Some link
   pub target' : (left_of next).target ≡ Some link'
   pub passes : Passes (told a.client) (told (left_of next).client) (told link) (told link') (counts a.client) (counts (left_of next).client) a.state new pass
 
 -- what such a turn did
-abbrev pub pass_acts : {L : Type 0} (told : L → Told) (counts : L → Counts) (a : Assoc L) (next : Next L) (pass : Pass) → RelayTurn told counts a next pass → Acts
+abbrev pub pass_acts : {L : Type 0} {basis : Basis} (told : L → Told) (counts : L → Counts) (a : Assoc L) (next : Next L) (pass : Pass) → RelayTurn told counts basis a next pass → Acts
 pass_acts told counts a next pass k = let p = k.passes in
     sum_acts p.takes_c.part p.takes_t.part p.gives_c.part p.gives_t.part p.takes_c.ends p.takes_t.ends p.gives_c.shuts p.gives_t.shuts
     (is_idle pass.took_c) (is_idle pass.took_t) (is_full pass.gave_c) (is_full pass.gave_t)
 
 -- the record that it leaves, but for its close
-abbrev pub pass_leaves : {L : Type 0} (told : L → Told) (counts : L → Counts) (a : Assoc L) (next : Next L) (pass : Pass) → RelayTurn told counts a next pass → Option Cause → Record
+abbrev pub pass_leaves : {L : Type 0} {basis : Basis} (told : L → Told) (counts : L → Counts) (a : Assoc L) (next : Next L) (pass : Pass) → RelayTurn told counts basis a next pass → Option Cause → Record
 pass_leaves told counts a next pass k cause = let p = k.passes in
     summed a.state p.takes_c.part p.takes_t.part p.gives_c.part p.gives_t.part p.takes_c.ends p.takes_t.ends p.gives_c.shuts p.gives_t.shuts cause
 
@@ -170,7 +171,7 @@ no-full false false h = (refl, refl)
 
 pub relay-turns : {L : Type 0} (told : L → Told) (counts : L → Counts) (stands : List Line → List StopBy → Type 0)
     (users : List User) (pubs : List Config) (generation : ℕ) (config : Config) (cap : ℕ) (h : List Line) (marks : List StopBy) (now : ℕ) (net : NetTold)
-    (a : Assoc L) (next : Next L) (pass : Pass) (k : RelayTurn told counts a next pass)
+    (a : Assoc L) (next : Next L) (pass : Pass) (k : RelayTurn told counts (socks users pubs) a next pass)
     (fault : Option Object) (unwritten : Bool) (outer : Outer) (cause at_close : Option Cause) (done : Bool) (h' : List Line) (marks' : List StopBy)
     → fault_of pass ≡ fault → unwritten_of pass ≡ unwritten → IsDesk outer
     → ((worker : ℕ) → turn (context users pubs generation config cap h marks)
@@ -186,6 +187,7 @@ relay-turns {L} told counts stands users pubs generation config cap h marks now 
   state' = state;
   desk = desked;
   goes_on = goes;
+  direct = k.stands.direct;
   c = refl;
   t = refl;
   sent_c = length-append a.state.sent_c p.gives_c.part;
@@ -272,7 +274,7 @@ relay-turns {L} told counts stands users pubs generation config cap h marks now 
     apart = (is-relayed a.state k.at k.begun.plain k.begun.reaches).dialled.apart
 
     facts : RelayFacts s a.state
-    facts = plain-relay-facts users pubs generation config cap h marks a.state k.at k.begun.plain k.begun.reaches k.begun.uncaused
+    facts = plain-relay-facts users pubs generation config cap h marks a.state k.at k.begun.plain k.begun.reaches k.begun.uncaused k.begun.direct
 
     takes : (end_c end_t : Bool) → Sums a.state p.takes_c.part p.takes_t.part p.gives_c.part p.gives_c.rest p.gives_t.part p.gives_t.rest end_c end_t false false
         → Takes s.basis generation config.methods
@@ -304,10 +306,10 @@ relay-turns {L} told counts stands users pubs generation config cap h marks now 
     all-read e = subst (λ (z : Option Object). FaultTells z (is_read pass.took_c) (is_sound pass.gave_t) (is_read pass.took_t) (is_sound pass.gave_c)) e tells
 
     sent_all_c : fault ≡ None → is_full pass.gave_c ≡ false → left.sent_c ≡ owed_to_client s.basis left
-    sent_all_c sound full = let f = all-read sound in all-sent _ p.gives_c.rest _ owes_c (sent-of p.gives_c f.0 f.3 full).0 ∙ sym (plain-owes-client users pubs _ plain)
+    sent_all_c sound full = let f = all-read sound in all-sent _ p.gives_c.rest _ owes_c (sent-of p.gives_c f.0 f.3 full).0 ∙ sym (plain-owes-client users pubs _ plain k.begun.direct)
 
     sent_all_t : fault ≡ None → is_full pass.gave_t ≡ false → left.sent_t ≡ owed_to_target s.basis left
-    sent_all_t sound full = let f = all-read sound in all-sent _ p.gives_t.rest _ owes_t (sent-of p.gives_t f.0 f.1 full).0 ∙ sym (plain-owes-target users pubs _ plain)
+    sent_all_t sound full = let f = all-read sound in all-sent _ p.gives_t.rest _ owes_t (sent-of p.gives_t f.0 f.1 full).0 ∙ sym (plain-owes-target users pubs _ plain k.begun.direct)
 
     client-fails : FaultTells (Some Object.Client) (is_read pass.took_c) (is_sound pass.gave_t) (is_read pass.took_t) (is_sound pass.gave_c)
         → Rose (counts a.client).faults (counts (left_of next).client).faults

@@ -103,7 +103,7 @@ pub record ClosesTalk {L : Type 0} (told : L → Told) (counts : L → Counts) (
 
 pub turns-closed : {L : Type 0} (told : L → Told) (counts : L → Counts) (stands : List Line → List StopBy → Type 0) (t : Hearing) (net : NetTold) (a b : Assoc L) (e : Ended L)
     (y sent : List ℕ) (ends idle : Bool) (fault : Option Object) (unwritten : Bool) (cause : Cause)
-    → Stands told (with_state a (before t)) → ClosesTalk told counts stands t a b e y sent ends idle fault unwritten cause
+    → Stands told (basis_of t) (with_state a (before t)) → ClosesTalk told counts stands t a b e y sent ends idle fault unwritten cause
     → Turns told counts stands (context_of t) (t.party).since net net (with_state a (before t)) (Next.Done e)
 turns-closed told counts stands t net a b e y sent ends idle fault unwritten cause k h =
     turns-talked told counts stands t (t.party).since net a (Next.Done e) y ends (Some closed.closes.logged) idle false fault unwritten k (record {
@@ -114,6 +114,7 @@ turns-closed told counts stands t net a b e y sent ends idle fault unwritten cau
       state' = ended';
       desk' = closed.closes.stands';
       goes_on = (ap (λ z. z.done) ended', ap (λ z. is_udp z) ended', ap (λ z. z.sent_u) ended');
+      direct' = record { direct = refl; known = tt };
       c' = refl;
       sent' = h.sent';
       end_c' = refl;

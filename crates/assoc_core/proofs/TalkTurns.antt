@@ -20,7 +20,7 @@ use Rattle.assoc_core.specs.declared.assoc.Assoc.{Assoc}
 use Rattle.assoc_core.specs.declared.assoc.Next.{Next}
 use Rattle.assoc_core.specs.Hearing.{IsAtEnd}
 use Rattle.assoc_core.specs.Plain.{owed_c}
-use Rattle.assoc_core.specs.Stands.{Stands, Holds, EndsBehind, GivesFirst, HoldsTarget}
+use Rattle.assoc_core.specs.Stands.{GoesDirect, Stands, Holds, EndsBehind, GivesFirst, HoldsTarget}
 use Rattle.assoc_core.specs.Turns.{Turns, Acts, event_of, links, mark_of, left_of, GoesOn, IsIdle, IsFull, SameOutside, SameTarget, DialsAre, PlanStays, IsOuterOf, StopsReading}
 use Rattle.assoc_core.proofs.StandsLaws.{SameTargetSide, target-same, same-target}
 use Rattle.assoc_core.proofs.Talking.{Hearing, basis_of, context_of, before, heard_takings}
@@ -102,6 +102,7 @@ pub record Talked {L : Type 0} (told : L → Told) (counts : L → Counts) (stan
   pub state' : (left_of next).state ≡ result.left
   pub desk' : stands result.h result.marks
   pub goes_on : GoesOn next
+  pub direct' : GoesDirect (basis_of t) (result.left).decisions
   pub c' : (result.left).c ≡ t.c ++ t.x
   pub sent' : (result.left).sent_c ≡ t.sent ++ y
   pub end_c' : (result.left).end_c ≡ ends
@@ -140,7 +141,7 @@ ends-heard told ends is at_end arrival given e1 e2 ended = at_end (sym is ∙ en
 
 pub turns-talked : {L : Type 0} (told : L → Told) (counts : L → Counts) (stands : List Line → List StopBy → Type 0) (t : Hearing) (now : ℕ) (net : NetTold) (a : Assoc L) (next : Next L)
     (y : List ℕ) (ends : Bool) (desk : Option Bool) (idle full : Bool) (fault : Option Object) (unwritten : Bool)
-    → Stands told (with_state a (before t)) → Talked told counts stands t now a next y ends desk idle full fault unwritten
+    → Stands told (basis_of t) (with_state a (before t)) → Talked told counts stands t now a next y ends desk idle full fault unwritten
     → Turns told counts stands (context_of t) now net net (with_state a (before t)) next
 turns-talked told counts stands t now net a next y ends desk idle full fault unwritten k h = record {
   acts = talk_acts t.x ends desk (length y) idle full fault unwritten;
@@ -149,6 +150,7 @@ turns-talked told counts stands t now net a next y ends desk idle full fault unw
   state' = h.state';
   desk = h.desk';
   goes_on = h.goes_on;
+  direct = h.direct';
   c = h.c';
   t = h.side.t;
   ends_c = λ e. h.end_c' ∙ e;

@@ -1,13 +1,16 @@
 -- What a turn takes of a client that talks.
-use Rattle.std.proofs.Common.{◌≡◌, ℕ, ◌<◌, Bool, true, false, ◌==◌, nat_le, if◌then◌else◌, Option, Some, None, List, [], ◌∷◌, ◌++◌, length, refl, sym, ap, ◌∙◌, inl, inr}
+use Rattle.std.proofs.Common.{◌≡◌, ℕ, Bool, true, false, ◌==◌, nat_le, if◌then◌else◌, Option, Some, None, List, [], ◌∷◌, ◌++◌, length, All, refl, sym, ap, ◌∙◌, inl, inr}
 use Rattle.std.proofs.lemmas.List.{append-nil}
 use mathlib.Core.List.{IsPrefix}
 use Rattle.addr_pattern.specs.declared.endpoint.Endpoint.{Endpoint}
 use Rattle.addr_pattern.specs.declared.front.BadKind.{BadKind}
 use Rattle.conf_model.specs.declared.config.Config.{Config}
 use Rattle.conf_model.specs.declared.protocol.Method.{Method}
+use Rattle.conf_model.specs.declared.route.Route.{Route}
+use Rattle.conf_model.specs.declared.route.Via.{Via}
 use Rattle.conf_model.specs.declared.user.User.{User}
 use Rattle.conf_model.specs.Handshake.{Split}
+use Rattle.rule_list.specs.Rules.{numbered}
 use Rattle.socks_machine.specs.declared.cause.Cause.{Cause}
 use Rattle.socks_machine.specs.declared.cause.StopBy.{StopBy}
 use Rattle.socks_machine.specs.declared.lines.Line.{Line}
@@ -81,8 +84,8 @@ pub record Hearing : Type 0 where
   pub sent : List ℕ
   pub chosen : Option Chosen
   pub methods' : config.methods ≡ Method.NoAuth ∷ []
-  pub routes' : config.routes ≡ []
-  pub negotiate' : 0 < config.negotiate
+  pub routes' : All (λ (r : Route). r.via ≡ Via.Direct) config.routes
+  pub published : numbered pubs generation ≡ Some config
   pub served : is_served_input (c ++ x) ≡ true
   pub chosen' : HasChosen c chosen
   pub unwhole : is_whole_input c ≡ false

@@ -7,7 +7,7 @@ use Rattle.conf_model.specs.declared.protocol.Method.{Method}
 use Rattle.conf_model.specs.declared.protocol.Version.{Version}
 use Rattle.rule_list.specs.declared.facts.Facts.{Facts}
 use Rattle.rule_list.specs.declared.verdict.Verdict.{Verdict}
-use Rattle.rule_list.specs.Rules.{judge, client_max, socks_max}
+use Rattle.rule_list.specs.Rules.{judge, route_of, client_max, socks_max}
 use Rattle.session_desk.specs.Calls.{Grants}
 use Rattle.socks_machine.specs.declared.cause.Cause.{Cause}
 use Rattle.socks_machine.specs.declared.cause.StopBy.{StopBy}
@@ -47,10 +47,10 @@ request_line generation config r to = record {
   socks_max = socks_max config (socks_rule_of (verdict_on config r to));
 }
 
--- a request that was judged, without a route
+-- a request that was judged, with the first route that matches it
 abbrev pub judged : ℕ → Config → Endpoint → Option Cause → Record → Record
 judged generation config to refused r = record r {
-  decisions = r.decisions ++ Decision.Granted generation (connect_facts r to) (verdict_on config r to) None refused ∷ [];
+  decisions = r.decisions ++ Decision.Granted generation (connect_facts r to) (verdict_on config r to) (route_of config (connect_facts r to)) refused ∷ [];
   cause = first_cause refused r.cause;
 }
 

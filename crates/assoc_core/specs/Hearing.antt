@@ -4,8 +4,10 @@ use Rattle.conf_model.specs.declared.config.Config.{Config}
 use Rattle.conf_model.specs.Plain.{IsPlain}
 use Rattle.net_ends.specs.Counts.{Counts, Later, Rose}
 use Rattle.net_ends.specs.Told.{Told, Arrival, more}
+use Rattle.rule_list.specs.Rules.{numbered}
 use Rattle.socks_machine.specs.declared.record.Chosen.{Chosen}
 use Rattle.socks_machine.specs.declared.record.Decision.{Decision}
+use Rattle.socks_machine.specs.Basis.{Basis}
 use Rattle.assoc_core.specs.declared.assoc.Assoc.{Assoc}
 use Rattle.assoc_core.specs.declared.hear.Heard.{Heard}
 use Rattle.assoc_core.specs.Plain.{is_greeted}
@@ -52,9 +54,10 @@ chosen_as generation (Some chosen) c = Some chosen
 chosen_as generation None c = if is_greeted c then Some (record { generation = generation; method = 0 }) else None
 
 -- b is a with what was heard of its client, which was let in and had no cause
-pub record HasHeard {L : Type 0} (told : L → Told) (counts : L → Counts) (generation : ℕ) (config : Config) (a b : Assoc L) (heard : Heard) : Type 0 where
-  pub stands : Stands told a
+pub record HasHeard {L : Type 0} (told : L → Told) (counts : L → Counts) (basis : Basis) (generation : ℕ) (config : Config) (a b : Assoc L) (heard : Heard) : Type 0 where
+  pub stands : Stands told basis a
   pub served : TellsServed (told a.client)
+  pub published : numbered basis.pubs generation ≡ Some config
   pub plain : IsPlain config
   pub generation' : ℕ
   pub rule : Option ℕ

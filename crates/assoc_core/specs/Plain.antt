@@ -1,4 +1,4 @@
--- The records of the first path: no login, no name, no proxy, no datagrams; and what they owe, in closed form.
+-- The records of the first path: no login, no name, no datagrams; and what they owe, in closed form, where no proxy is used.
 use Rattle.std.specs.Prelude.{ℕ, ◌≡◌, Bool, true, false, ◌&&◌, ◌==◌, Option, Some, None, List, [], ◌∷◌, ◌++◌, drop, is_some}
 use mathlib.Core.List.{IsPrefix}
 use Rattle.addr_pattern.specs.declared.endpoint.Endpoint.{Endpoint}
@@ -100,8 +100,8 @@ pub record Dialled (r : Record) (facts : Facts) (at : Option Endpoint) : Type 0 
 abbrev pub HasDecided : Record → List Decision → Type 0
 HasDecided r [] = r ≡ fresh r.number r.peer r.local r.since
 HasDecided r (Decision.Opened g rule None ∷ []) = Talking r
-HasDecided r (Decision.Opened g rule None ∷ Decision.Granted g' facts verdict None refused ∷ []) = Judged r facts refused
-HasDecided r (Decision.Opened g rule None ∷ Decision.Granted g' facts verdict None None ∷ Decision.Reached to at ∷ []) = Dialled r facts at
+HasDecided r (Decision.Opened g rule None ∷ Decision.Granted g' facts verdict route refused ∷ []) = Judged r facts refused
+HasDecided r (Decision.Opened g rule None ∷ Decision.Granted g' facts verdict route None ∷ Decision.Reached to at ∷ []) = Dialled r facts at
 HasDecided r _ = ⊥
 
 -- a record of the first path that hasn't ended

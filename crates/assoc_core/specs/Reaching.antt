@@ -10,6 +10,7 @@ use Rattle.socks_machine.specs.declared.cause.Cause.{Cause}
 use Rattle.socks_machine.specs.declared.cause.StopBy.{StopBy}
 use Rattle.socks_machine.specs.declared.lines.Line.{Line}
 use Rattle.socks_machine.specs.declared.record.Decision.{Decision}
+use Rattle.socks_machine.specs.Basis.{Basis}
 use Rattle.assoc_core.specs.declared.assoc.Assoc.{Assoc}
 use Rattle.assoc_core.specs.Plain.{owed_c}
 use Rattle.assoc_core.specs.Stands.{Stands}
@@ -32,14 +33,15 @@ abbrev pub SameDesk : List Line → List StopBy → List Line → List StopBy �
 SameDesk h marks h' marks' = (h' ≡ h) × (marks' ≡ marks)
 
 -- b is a with the decision of a dial that came out so
-pub record HasDialled {L : Type 0} (told : L → Told) (net net' : NetTold) (now : ℕ) (a b : Assoc L) (outcome : DialOutcome) : Type 0 where
-  pub stands : Stands told a
+pub record HasDialled {L : Type 0} (told : L → Told) (basis : Basis) (net net' : NetTold) (now : ℕ) (a b : Assoc L) (outcome : DialOutcome) : Type 0 where
+  pub stands : Stands told basis a
   pub g : ℕ
   pub rule : Option ℕ
   pub g' : ℕ
   pub facts : Facts
   pub verdict : Verdict
-  pub granted' : (a.state).decisions ≡ Decision.Opened g rule None ∷ Decision.Granted g' facts verdict None None ∷ []
+  pub route : Option ℕ
+  pub granted' : (a.state).decisions ≡ Decision.Opened g rule None ∷ Decision.Granted g' facts verdict route None ∷ []
   pub uncaused : (a.state).cause ≡ None
   pub since : (a.state).since ≡ now
   pub state' : b.state ≡ (let r = a.state in record r { since = now; decisions = r.decisions ++ Decision.Reached facts.to (at_of outcome) ∷ [] })

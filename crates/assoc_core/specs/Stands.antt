@@ -1,11 +1,14 @@
--- An association between two turns, and the record that it stands for.
-use Rattle.std.specs.Prelude.{ℕ, ◌≡◌, Bool, true, false, Option, Some, None, List, []}
+-- An association between two turns, and the record that it stands for over what is published.
+use Rattle.std.specs.Prelude.{ℕ, ◌≡◌, ◌≤◌, Bool, true, false, Option, Some, None, List, [], length, IfSome, option_and_then}
 use mathlib.Core.List.{IsPrefix}
 use Rattle.net_ends.specs.Told.{Told, Arrival}
 use Rattle.addr_pattern.specs.declared.endpoint.Endpoint.{Endpoint}
+use Rattle.socks_machine.specs.declared.record.Decision.{Decision}
 use Rattle.socks_machine.specs.declared.record.Record.{Record}
-use Rattle.socks_machine.specs.Decisions.{reached_at}
+use Rattle.socks_machine.specs.Basis.{Basis}
+use Rattle.socks_machine.specs.Decisions.{granted, reached_at}
 use Rattle.socks_machine.specs.Served.{is_served_input}
+use Rattle.socks_machine.specs.View.{proxy_of_grant}
 use Rattle.assoc_core.specs.declared.assoc.Assoc.{Assoc}
 use Rattle.assoc_core.specs.Plain.{IsPlainRecord}
 
@@ -37,9 +40,15 @@ pub record TellsServed (told : Told) : Type 0 where
   pub given' : told.given ≡ Some given
   pub served : is_served_input arrival.bytes ≡ true
 
+-- the grant, where there is one, is of a published configuration, and the route that it keeps leads to no proxy there
+pub record GoesDirect (basis : Basis) (ds : List Decision) : Type 0 where
+  pub direct : option_and_then (proxy_of_grant basis) (granted ds) ≡ None
+  pub known : IfSome (granted ds) (λ g. g.generation ≤ length basis.pubs)
+
 -- the association stands for its record
-pub record Stands {L : Type 0} (told : L → Told) (a : Assoc L) : Type 0 where
+pub record Stands {L : Type 0} (told : L → Told) (basis : Basis) (a : Assoc L) : Type 0 where
   pub plain : IsPlainRecord a.state
+  pub direct : GoesDirect basis (a.state).decisions
   pub client : Holds (told a.client) a.state.c a.state.sent_c a.state.end_c a.state.shut_c
   pub client_ends : EndsBehind (told a.client)
   pub client_first : GivesFirst (told a.client)

@@ -25,7 +25,7 @@ use Rattle.socks_machine.specs.Turn.{turn, quantum}
 use Rattle.assoc_core.specs.declared.assoc.Assoc.{Assoc}
 use Rattle.assoc_core.specs.declared.assoc.Next.{Next}
 use Rattle.assoc_core.specs.Plain.{IsPlainRecord, owed_c, owed_t}
-use Rattle.assoc_core.specs.Stands.{Holds, EndsBehind, GivesFirst, HoldsTarget}
+use Rattle.assoc_core.specs.Stands.{GoesDirect, Holds, EndsBehind, GivesFirst, HoldsTarget}
 
 -- ---- the event
 
@@ -198,6 +198,7 @@ pub record Turns {L : Type 0} (told : L → Told) (counts : L → Counts) (stand
   pub desk : stands result.h result.marks
   -- the association
   pub goes_on : GoesOn next
+  pub direct : GoesDirect s.basis (result.left).decisions
   pub c : result.left.c ≡ a.state.c ++ acts.c
   pub t : result.left.t ≡ a.state.t ++ acts.t
   pub sent_c : length result.left.sent_c ≡ length a.state.sent_c + acts.sent_c

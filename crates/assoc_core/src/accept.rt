@@ -1,11 +1,11 @@
 ghost use Rattle.std.specs.Prelude.{◌≡◌, ℕ, [], List, IfOk};
 ghost use Rattle.conf_model.specs.declared.config.Config.{Config};
 ghost use Rattle.conf_model.specs.declared.user.User.{User};
-ghost use Rattle.conf_model.specs.Plain.{IsPlain};
 ghost use Rattle.net_ends.specs.Nets.{NetTold};
 ghost use Rattle.rule_list.specs.Numbers.{FitsNumbers};
 ghost use Rattle.socks_machine.specs.declared.lines.Line.{Line};
 ghost use Rattle.socks_machine.specs.declared.cause.StopBy.{StopBy};
+ghost use Rattle.socks_machine.specs.Socks.{socks};
 ghost use Rattle.assoc_core.specs.Lines.{client_line};
 ghost use Rattle.assoc_core.specs.Stands.{Stands, TellsServed};
 ghost use Rattle.assoc_core.specs.Turns.{Turns, context};
@@ -46,7 +46,7 @@ impl<L: Link + Drop> Assoc<L> {
     ) -> Result<Next<L>, AllocError>
         requires { FitsNumbers config.now }
         ensures cap { K.cap desk.new ≡ K.cap desk.old }
-        ensures turns { IfOk result (λ next. (users : List User) (pubs : List Config) (h : List Line) (marks : List StopBy) (net : NetTold) (now : ℕ) → K.stands desk.old h marks → Stands L.told self → TellsServed (L.told self.client) → IsPlain config.now → self.state.since ≡ now → self.state.decisions ≡ [] → Turns L.told L.counts (K.stands desk.new) (context users pubs generation config.now (K.cap desk.old) h marks) now net net self next) }
+        ensures turns { IfOk result (λ next. (users : List User) (pubs : List Config) (h : List Line) (marks : List StopBy) (net : NetTold) (now : ℕ) → K.stands desk.old h marks → Stands L.told (socks users pubs) self → TellsServed (L.told self.client) → self.state.since ≡ now → self.state.decisions ≡ [] → Turns L.told L.counts (K.stands desk.new) (context users pubs generation config.now (K.cap desk.old) h marks) now net net self next) }
     {
         let line = line_of(&self.state, generation, config);
         let rule = line.rule;

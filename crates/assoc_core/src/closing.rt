@@ -1,10 +1,10 @@
 ghost use Rattle.std.specs.Prelude.{◌≡◌, ◌&&◌, ◌||◌, not, ℕ, List, IfOk, Some};
 ghost use Rattle.conf_model.specs.declared.config.Config.{Config};
 ghost use Rattle.conf_model.specs.declared.user.User.{User};
-ghost use Rattle.conf_model.specs.Plain.{IsPlain};
 ghost use Rattle.net_ends.specs.Nets.{NetTold};
 ghost use Rattle.socks_machine.specs.declared.cause.StopBy.{StopBy};
 ghost use Rattle.socks_machine.specs.declared.lines.Line.{Line};
+ghost use Rattle.socks_machine.specs.Socks.{socks};
 ghost use Rattle.socks_machine.specs.Turn.{is_quiet as quiet_by};
 ghost use Rattle.assoc_core.specs.Carrying.{is_full as full_by, is_sound as sound_by};
 ghost use Rattle.assoc_core.specs.Draining.{SendsClient, SendsTarget};
@@ -94,7 +94,7 @@ impl<L: Link + Drop> Assoc<L> {
         requires { self.state.cause ≡ Some cause }
         ensures cap { IfOk result (λ next. D.cap desk.new ≡ D.cap desk.old) }
         ensures turns { IfOk result (λ next. (users : List User) (pubs : List Config) (generation : ℕ) (config : Config) (now : ℕ) (net : NetTold) (h : List Line) (marks : List StopBy)
-            → D.stands desk.old h marks → Stands L.told self → IsPlain config → self.state.since ≡ now
+            → D.stands desk.old h marks → Stands L.told (socks users pubs) self → self.state.since ≡ now
             → Turns L.told L.counts (D.stands desk.new) (context users pubs generation config (D.cap desk.old) h marks) now net net self next) }
     {
         let gave_c = send_to_client(alloc, &mut self.state, &mut self.client)?;

@@ -8,7 +8,7 @@ ghost use Rattle.assoc_core.specs.Granting.{AsksGrant, connect_facts, request_li
 use crate::refusals::{blocked, first_cause, refusal_full};
 use addr_pattern::Endpoint;
 use conf_model::{Command, Config, Method, Version};
-use rule_list::{Facts, Verdict, client_max, judge, socks_max};
+use rule_list::{Facts, Verdict, client_max, first_route, judge, socks_max};
 use session_desk::DeskCall;
 use socks_machine::{Decision, GrantLine, Record};
 use std::alloc::AllocError;
@@ -85,11 +85,12 @@ pub fn ask_grant<K: DeskCall>(
     let line = line_of(state, generation, config, to);
     let verdict = line.verdict;
     let facts = facts_of(state, to);
+    let route = first_route(config, &facts);
     state.decisions.push(Decision::Granted {
         generation,
         facts,
         verdict,
-        route: None,
+        route,
         refused: None,
     })?;
     let refused = refusal_full(generation, desk.grant(&line), blocked(generation, verdict));
@@ -98,7 +99,7 @@ pub fn ask_grant<K: DeskCall>(
         generation,
         facts,
         verdict,
-        route: None,
+        route,
         refused,
     });
     state.cause = first_cause(refused, state.cause);

@@ -1,10 +1,12 @@
-ghost use Rattle.std.specs.Prelude.{ℕ, ◌≡◌, List as Items, IfOk};
+ghost use Rattle.std.specs.Prelude.{ℕ, ◌≡◌, Some, List as Items, IfOk};
 ghost use Rattle.conf_model.specs.declared.config.Config.{Config as SomeConfig};
 ghost use Rattle.conf_model.specs.declared.user.User.{User};
 ghost use Rattle.conf_model.specs.Plain.{IsPlain};
 ghost use Rattle.rule_list.specs.Numbers.{FitsNumbers};
+ghost use Rattle.rule_list.specs.Rules.{numbered};
 ghost use Rattle.socks_machine.specs.declared.cause.StopBy.{StopBy};
 ghost use Rattle.socks_machine.specs.declared.lines.Line.{Line};
+ghost use Rattle.socks_machine.specs.Socks.{socks};
 ghost use Rattle.assoc_core.specs.Course.{IsCourse};
 ghost use Rattle.assoc_core.specs.Stands.{Stands, TellsServed};
 ghost use Rattle.assoc_core.specs.Turns.{Turns, context};
@@ -56,7 +58,7 @@ where
     requires { FitsNumbers config.now }
     ensures cap { IfOk result (λ next. K.cap desk.new ≡ K.cap desk.old) }
     ensures turns { IfOk result (λ next. (users : Items User) (pubs : Items SomeConfig) (h : Items Line) (marks : Items StopBy)
-        → K.stands desk.old h marks → Stands N.Link.told a → TellsServed (N.Link.told a.client) → IsPlain config.now → a.state.since ≡ now
+        → K.stands desk.old h marks → Stands N.Link.told (socks users pubs) a → TellsServed (N.Link.told a.client) → numbered pubs generation ≡ Some config.now → IsPlain config.now → a.state.since ≡ now
         → Turns N.Link.told N.Link.counts (K.stands desk.new) (context users pubs generation config.now (K.cap desk.old) h marks) now (N.told net.old) (N.told net.new) a next) }
 {
     if let Some(cause) = a.state.cause {

@@ -2,11 +2,11 @@ ghost use Rattle.std.specs.Prelude.{◌≡◌, ◌&&◌, ◌||◌, not, ℕ, Lis
 ghost use Rattle.addr_pattern.specs.declared.endpoint.Endpoint.{Endpoint};
 ghost use Rattle.conf_model.specs.declared.config.Config.{Config};
 ghost use Rattle.conf_model.specs.declared.user.User.{User};
-ghost use Rattle.conf_model.specs.Plain.{IsPlain};
 ghost use Rattle.net_ends.specs.Nets.{NetTold};
 ghost use Rattle.socks_machine.specs.declared.cause.StopBy.{StopBy};
 ghost use Rattle.socks_machine.specs.declared.lines.Line.{Line};
 ghost use Rattle.socks_machine.specs.Decisions.{reached_at as first_reached};
+ghost use Rattle.socks_machine.specs.Socks.{socks};
 ghost use Rattle.assoc_core.specs.Carrying.{Passes, has_ended as ended_by, is_sound as sound_by, fault_of as fault_in, object_of, has_pending, took_quantum as quantum_in, unwritten_of};
 ghost use Rattle.assoc_core.specs.Stands.{Stands};
 ghost use Rattle.assoc_core.specs.Turns.{Turns, context};
@@ -163,7 +163,7 @@ impl<L: Link + Drop> Assoc<L> {
     ) -> Result<Next<L>, AllocError>
         ensures cap { IfOk result (λ next. D.cap desk.new ≡ D.cap desk.old) }
         ensures turns { IfOk result (λ next. (users : List User) (pubs : List Config) (generation : ℕ) (config : Config) (now : ℕ) (net : NetTold) (h : List Line) (marks : List StopBy) (at : Endpoint)
-            → D.stands desk.old h marks → Stands L.told self → IsPlain config → self.state.since ≡ now
+            → D.stands desk.old h marks → Stands L.told (socks users pubs) self → self.state.since ≡ now
             → first_reached self.state.decisions ≡ Some at → self.state.cause ≡ None
             → Turns L.told L.counts (D.stands desk.new) (context users pubs generation config (D.cap desk.old) h marks) now net net self next) }
     {

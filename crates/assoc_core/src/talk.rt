@@ -1,12 +1,14 @@
-ghost use Rattle.std.specs.Prelude.{◌≡◌, ℕ, None, Option, List, [], ◌∷◌, IfOk, drop, length};
+ghost use Rattle.std.specs.Prelude.{◌≡◌, ℕ, None, Some, Option, List, [], ◌∷◌, IfOk, drop, length};
 ghost use Rattle.conf_model.specs.declared.config.Config.{Config};
 ghost use Rattle.conf_model.specs.declared.user.User.{User};
 ghost use Rattle.conf_model.specs.Plain.{IsPlain};
 ghost use Rattle.net_ends.specs.Nets.{NetTold};
 ghost use Rattle.rule_list.specs.Numbers.{FitsNumbers};
+ghost use Rattle.rule_list.specs.Rules.{numbered};
 ghost use Rattle.socks_machine.specs.declared.lines.Line.{Line};
 ghost use Rattle.socks_machine.specs.declared.cause.StopBy.{StopBy};
 ghost use Rattle.socks_machine.specs.declared.record.Decision.{Decision};
+ghost use Rattle.socks_machine.specs.Socks.{socks};
 ghost use Rattle.assoc_core.specs.Hearing.{HasHeard};
 ghost use Rattle.assoc_core.specs.Plain.{owed_c};
 ghost use Rattle.assoc_core.specs.Preludes.{IsConnect, IsOther};
@@ -55,7 +57,7 @@ impl<L: Link + Drop> Assoc<L> {
     ) -> Result<Next<L>, AllocError>
         requires { FitsNumbers config.now }
         ensures cap { IfOk result (λ next. K.cap desk.new ≡ K.cap desk.old) }
-        ensures turns { IfOk result (λ next. (users : List User) (pubs : List Config) (h : List Line) (marks : List StopBy) (net : NetTold) (now generation' : ℕ) (rule : Option ℕ) → K.stands desk.old h marks → Stands L.told self → TellsServed (L.told self.client) → IsPlain config.now → self.state.since ≡ now → self.state.cause ≡ None → self.state.decisions ≡ Decision.Opened generation' rule None ∷ [] → Turns L.told L.counts (K.stands desk.new) (context users pubs generation config.now (K.cap desk.old) h marks) now net net self next) }
+        ensures turns { IfOk result (λ next. (users : List User) (pubs : List Config) (h : List Line) (marks : List StopBy) (net : NetTold) (now generation' : ℕ) (rule : Option ℕ) → K.stands desk.old h marks → Stands L.told (socks users pubs) self → TellsServed (L.told self.client) → numbered pubs generation ≡ Some config.now → IsPlain config.now → self.state.since ≡ now → self.state.cause ≡ None → self.state.decisions ≡ Decision.Opened generation' rule None ∷ [] → Turns L.told L.counts (K.stands desk.new) (context users pubs generation config.now (K.cap desk.old) h marks) now net net self next) }
     {
         let heard = hear(alloc, &mut self.state.c, &mut self.client)?;
         self.state.chosen = choose(generation, self.state.chosen, self.state.c.as_slice());
@@ -70,7 +72,7 @@ impl<L: Link + Drop> Assoc<L> {
     /// The client has ended before its prelude was whole.
     fn hang_up<K: DeskCall>(mut self, desk: &mut K) -> Next<L>
         ensures cap { K.cap desk.new ≡ K.cap desk.old }
-        ensures turns { (users : List User) (pubs : List Config) (generation : ℕ) (config : Config) (h : List Line) (marks : List StopBy) (net : NetTold) (now : ℕ) (a : Assoc L) → K.stands desk.old h marks → HasHeard L.told L.counts generation config a self Heard.End → a.state.since ≡ now → Turns L.told L.counts (K.stands desk.new) (context users pubs generation config (K.cap desk.old) h marks) now net net a result }
+        ensures turns { (users : List User) (pubs : List Config) (generation : ℕ) (config : Config) (h : List Line) (marks : List StopBy) (net : NetTold) (now : ℕ) (a : Assoc L) → K.stands desk.old h marks → HasHeard L.told L.counts (socks users pubs) generation config a self Heard.End → a.state.since ≡ now → Turns L.told L.counts (K.stands desk.new) (context users pubs generation config (K.cap desk.old) h marks) now net net a result }
     {
         self.state.end_c = true;
         let at = self.state.c.len() as u64;
@@ -80,7 +82,7 @@ impl<L: Link + Drop> Assoc<L> {
     /// The client says nothing more yet: the greeting is answered.
     fn answer<K: DeskCall>(mut self, alloc: Global, desk: &mut K) -> Result<Next<L>, AllocError>
         ensures cap { IfOk result (λ next. K.cap desk.new ≡ K.cap desk.old) }
-        ensures turns { IfOk result (λ next. (users : List User) (pubs : List Config) (generation : ℕ) (config : Config) (h : List Line) (marks : List StopBy) (net : NetTold) (now : ℕ) (a : Assoc L) → K.stands desk.old h marks → HasHeard L.told L.counts generation config a self Heard.NotYet → a.state.since ≡ now → Turns L.told L.counts (K.stands desk.new) (context users pubs generation config (K.cap desk.old) h marks) now net net a next) }
+        ensures turns { IfOk result (λ next. (users : List User) (pubs : List Config) (generation : ℕ) (config : Config) (h : List Line) (marks : List StopBy) (net : NetTold) (now : ℕ) (a : Assoc L) → K.stands desk.old h marks → HasHeard L.told L.counts (socks users pubs) generation config a self Heard.NotYet → a.state.since ≡ now → Turns L.told L.counts (K.stands desk.new) (context users pubs generation config (K.cap desk.old) h marks) now net net a next) }
     {
         match send_to_client(alloc, &mut self.state, &mut self.client)? {
             Sent::All => Ok(Next::Wait(self)),
@@ -99,7 +101,7 @@ impl<L: Link + Drop> Assoc<L> {
     ) -> Result<Next<L>, AllocError>
         requires { FitsNumbers config.now }
         ensures cap { IfOk result (λ next. K.cap desk.new ≡ K.cap desk.old) }
-        ensures turns { IfOk result (λ next. (users : List User) (pubs : List Config) (h : List Line) (marks : List StopBy) (net : NetTold) (now : ℕ) (a : Assoc L) → K.stands desk.old h marks → HasHeard L.told L.counts generation config.now a self Heard.Decided → a.state.since ≡ now → Turns L.told L.counts (K.stands desk.new) (context users pubs generation config.now (K.cap desk.old) h marks) now net net a next) }
+        ensures turns { IfOk result (λ next. (users : List User) (pubs : List Config) (h : List Line) (marks : List StopBy) (net : NetTold) (now : ℕ) (a : Assoc L) → K.stands desk.old h marks → HasHeard L.told L.counts (socks users pubs) generation config.now a self Heard.Decided → a.state.since ≡ now → Turns L.told L.counts (K.stands desk.new) (context users pubs generation config.now (K.cap desk.old) h marks) now net net a next) }
     {
         match read_prelude(self.state.c.as_slice()) {
             Prelude::Whole(to) => self.grant(alloc, generation, config, desk, to),
@@ -123,7 +125,7 @@ impl<L: Link + Drop> Assoc<L> {
     ) -> Result<Next<L>, AllocError>
         requires { FitsNumbers config.now }
         ensures cap { IfOk result (λ next. K.cap desk.new ≡ K.cap desk.old) }
-        ensures turns { IfOk result (λ next. (users : List User) (pubs : List Config) (h : List Line) (marks : List StopBy) (net : NetTold) (now : ℕ) (a : Assoc L) → K.stands desk.old h marks → HasHeard L.told L.counts generation config.now a self Heard.Decided → IsConnect self.state.c to → a.state.since ≡ now → Turns L.told L.counts (K.stands desk.new) (context users pubs generation config.now (K.cap desk.old) h marks) now net net a next) }
+        ensures turns { IfOk result (λ next. (users : List User) (pubs : List Config) (h : List Line) (marks : List StopBy) (net : NetTold) (now : ℕ) (a : Assoc L) → K.stands desk.old h marks → HasHeard L.told L.counts (socks users pubs) generation config.now a self Heard.Decided → IsConnect self.state.c to → a.state.since ≡ now → Turns L.told L.counts (K.stands desk.new) (context users pubs generation config.now (K.cap desk.old) h marks) now net net a next) }
     {
         ask_grant(&mut self.state, generation, config, desk, to)?;
         match send_to_client(alloc, &mut self.state, &mut self.client)? {

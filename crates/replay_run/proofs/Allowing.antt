@@ -96,6 +96,7 @@ pub record Turning : Type 1 where
   pub s : Surroundings
   pub w : World
   pub new : World
+  pub generation : ℕ
   pub config : Config
   pub n : ℕ
   pub a : Assoc LinkInMemory
@@ -106,8 +107,9 @@ pub record Turning : Type 1 where
   pub stands' : List Line → List StopBy → Type 0
   pub now : s.now ≡ 0
   pub marks : last_mark w.marks ≡ None
-  pub going : IsGoing n a net o
-  pub turns : Turns told_of_link (λ (l : LinkInMemory). l.counts) stands' (context w.users w.pubs 1 config w.cap w.h w.marks) 0 (told_of_net net) (told_of_net net') a next
+  pub pubs : List Config
+  pub going : IsGoing pubs n a net o
+  pub turns : Turns told_of_link (λ (l : LinkInMemory). l.counts) stands' (context w.users w.pubs generation config w.cap w.h w.marks) 0 (told_of_net net) (told_of_net net') a next
   pub stepped : step w (Event.Turn (event_of 1 a.state.number 0 turns.acts (mark_of next))) ≡ Some new
   pub behind' : numbered new.records a.state.number ≡ Some (turns.result).left
 
@@ -221,7 +223,7 @@ unreached : (k : Turning) (g : Grant) → phase (basis_of k.w) k.turns.behind �
 unreached k g at =
     let facts : PhaseFacts (view (basis_of k.w) k.turns.behind) k.turns.behind (Phase.Reach g) =
     subst (λ (p : Phase). PhaseFacts (view (basis_of k.w) k.turns.behind) k.turns.behind p) at (phase-says (view (basis_of k.w) k.turns.behind) k.turns.behind) in
-    sym (ap (λ z. is_some (reached z)) (taken-keeps-decisions (basis_of k.w) 1 (k.config).methods (event k) k.a.state k.turns.behind refl (k.turns.taken' 1))) ∙ facts.1
+    sym (ap (λ z. is_some (reached z)) (taken-keeps-decisions (basis_of k.w) k.generation (k.config).methods (event k) k.a.state k.turns.behind refl (k.turns.taken' 1))) ∙ facts.1
 
 reached-some : (r : Option Reaching) (at : Endpoint) → option_and_then (λ r. r.at) r ≡ Some at → is_some r ≡ true
 reached-some None at h = cc
@@ -247,7 +249,7 @@ outer-is o net (Phase.Reach g) Outer.NetUnreachable dial h = dialled-as o net g 
 outer-is o net (Phase.Reach g) Outer.Failed dial h = dialled-as o net g Outer.Failed (dial g refl) h
 outer-is o net p outer dial h = absurd h
 
-outer-fits : (k : Turning) → OuterFits (basis_of k.w) 1 k.config k.o (event k) k.a.state
+outer-fits : (k : Turning) → OuterFits (basis_of k.w) k.generation k.config k.o (event k) k.a.state
 outer-fits k = record {
   behind = k.turns.behind;
   taken' = k.turns.taken' 1;
@@ -267,11 +269,11 @@ none-contained : {A : Type 0} (x : A) → Contains [] x → ⊥
 none-contained x h = absurd (omega (arith, h.1))
 
 abbrev made-over : Turning → Context
-made-over k = context k.w.users k.w.pubs 1 k.config k.w.cap k.w.h k.w.marks
+made-over k = context k.w.users k.w.pubs k.generation k.config k.w.cap k.w.h k.w.marks
 
 abbrev Comes : Turning → List ℕ → List ℕ → List ℕ → Bool → Bool → Type 0 → (Record → Phase → Bool) → (Basis → Record → ℕ) → Type 0
 Comes k arrived had part stands was Passes reads waiting =
-    ComesToEnd arrived (had ++ part) stands was part Passes (Meets (basis_of k.w) 1 k.config (event k) k.a.state (behind_turn k.w (event k)) reads waiting)
+    ComesToEnd arrived (had ++ part) stands was part Passes (Meets (basis_of k.w) k.generation k.config (event k) k.a.state (behind_turn k.w (event k)) reads waiting)
 
 same-behind : {A : Type 0} (x y : A) → Some x ≡ Some y → x ≡ y
 same-behind x y h = cc
@@ -361,7 +363,7 @@ faults-are k = record {
 
 -- ---- the whole
 
-pub allows : (k : Turning) → Allows k.s k.w 1 k.config k.o (event k) [] k.a.state
+pub allows : (k : Turning) → Allows k.s k.w k.generation k.config k.o (event k) [] k.a.state
 allows k = record {
   moment = sym k.now;
   stop' = sym k.marks;

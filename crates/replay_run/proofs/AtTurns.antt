@@ -1,8 +1,14 @@
 -- A turn at a place of the replay, from the turn that was made and its line.
-use Rattle.std.proofs.Common.{ℕ, ◌≡◌, ◌+◌, ◌∙◌, sym, ap, subst, refl, Bool, true, false, Some, None, List, ◌++◌, length, length-append, slice_set}
-use Rattle.std.specs.Prelude.{slice_get}
+use Rattle.std.proofs.Common.{ℕ, zero, suc, ◌≡◌, ◌+◌, ◌∙◌, sym, ap, subst, refl, Bool, true, false, Some, None, List, [], ◌∷◌, ◌++◌, length, length-append, slice_set}
+use Rattle.std.specs.Prelude.{slice_get, All}
+use Rattle.std.proofs.lemmas.List.Elements.{All-head, All-tail}
 use Rattle.conf_model.specs.declared.config.Config.{Config}
 use Rattle.conf_model.specs.Plain.{IsPlain}
+use Rattle.conf_model.specs.declared.user.User.{User}
+use Rattle.generation.specs.Published.{Generations}
+use Rattle.rule_list.specs.Rules.{numbered}
+use Rattle.assoc_core.specs.Stands.{Stands}
+use Rattle.socks_machine.specs.Socks.{socks}
 use Rattle.net_ends.specs.InMemory.{LinkInMemory, NetInMemory, told_of_link, told_of_net}
 use Rattle.session_desk.specs.Standings.{StandsFor}
 use Rattle.socks_machine.specs.declared.record.Record.{Record}
@@ -10,6 +16,7 @@ use Rattle.socks_machine.specs.declared.world.Event.{Event}
 use Rattle.socks_machine.specs.declared.world.NextMark.{NextMark}
 use Rattle.socks_machine.specs.declared.world.TurnEvent.{TurnEvent}
 use Rattle.socks_machine.specs.declared.world.World.{World}
+use Rattle.socks_machine.specs.Basis.{Basis}
 use Rattle.socks_machine.specs.History.{last_mark}
 use Rattle.socks_machine.specs.Phase.{is_udp}
 use Rattle.socks_machine.specs.Script.{Outside, Surroundings}
@@ -24,7 +31,7 @@ use Rattle.replay_run.specs.declared.slot.Slot.{Slot}
 use Rattle.replay_run.specs.declared.state.Replay.{Replay}
 use Rattle.replay_run.specs.declared.totals.Totals.{Totals}
 use Rattle.replay_run.specs.AtTurn.{IsTurned, TurnsAt}
-use Rattle.replay_run.specs.Mirrors.{Mirrors, IsGoing, IsSlot}
+use Rattle.replay_run.specs.Mirrors.{Mirrors, IsConfigured, IsGoing, IsSlot}
 use Rattle.replay_run.specs.Played.{is_over}
 use Rattle.replay_run.specs.Shown.{turn_shown}
 use Rattle.replay_run.specs.Taken.{MakesTurn, WritesTurn, left_record, slot_of}
@@ -55,19 +62,19 @@ goes-over ev next h = ap (λ (m : NextMark). is_over (Event.Turn (record ev { ne
 longer : (left before came : List ℕ) (n : ℕ) → left ≡ before ++ came → n ≡ length before → length left ≡ n + length came
 longer left before came n h m = ap length h ∙ (length-append before came ∙ ap (λ z. z + length came) (sym m))
 
-shown : (world : World) (ev : TurnEvent) (r : Record) → event_line world (Event.Turn ev) ≡ turn_line 1 ev (Some r) → event_line world (Event.Turn ev) ≡ turn_shown ev r
+shown : (world : World) (g : ℕ) (ev : TurnEvent) (r : Record) → event_line world (Event.Turn ev) ≡ turn_line g ev (Some r) → event_line world (Event.Turn ev) ≡ turn_shown g ev r
 unfolding turn_shown
-shown world ev r h = h
+shown world g ev r h = h
 
 -- the turn that the script allows at this place, once it is known for the world that the replay stands for
 turned-at : (config : Config) (k : ℕ) (old new : Replay) (a : Assoc LinkInMemory) (net net' : NetInMemory) (next : Next LinkInMemory) (still : Bool) (before : Totals)
     → slice_get old.slots k ≡ Some (Slot.Going a net) → before ≡ totals_of a.state
-    → MakesTurn config old.desk new.desk a net next net' → WritesTurn before next old.out new.out still
-    → new.slots ≡ slice_set old.slots k (slot_of next net') → new.seen ≡ old.seen
-    → (s : Surroundings) (w : World) → Mirrors (StandsFor old.desk) old.desk.cap s w (Some config) true old.slots → old.seen ≡ true
-    → Turns told_of_link (λ (l : LinkInMemory). l.counts) (StandsFor new.desk) (context w.users w.pubs 1 config w.cap w.h w.marks) 0 (told_of_net net) (told_of_net net') a next
-    → IsTurned s w config k old new still
-turned-at config k old new a net net' next still before at totals makes writes slots seen s w m saw t = record {
+    → MakesTurn (old.gens).seen config old.desk new.desk a net next net' → WritesTurn (old.gens).seen before next old.out new.out still
+    → new.slots ≡ slice_set old.slots k (slot_of next net') → new.gens ≡ old.gens → numbered (old.gens).configs (old.gens).seen ≡ Some config
+    → (s : Surroundings) (w : World) → Mirrors (StandsFor old.desk) old.desk.cap s w old.gens old.slots
+    → Turns told_of_link (λ (l : LinkInMemory). l.counts) (StandsFor new.desk) (context w.users w.pubs (old.gens).seen config w.cap w.h w.marks) 0 (told_of_net net) (told_of_net net') a next
+    → IsTurned s w k old new still
+turned-at config k old new a net net' next still before at totals makes writes slots gens is-config s w m t = record {
   ev = ev;
   left = left;
   world = r.new;
@@ -75,14 +82,14 @@ turned-at config k old new a net net' next still before at totals makes writes s
   stepped = r.stepped;
   used = r.used;
   over = goes-over ev next refl;
-  mirrors = subst (λ (z : Bool). Mirrors (StandsFor new.desk) new.desk.cap s r.new (Some config) z new.slots) (sym (seen ∙ saw))
-      (subst (λ (z : List Slot). Mirrors (StandsFor new.desk) new.desk.cap s r.new (Some config) true z) (sym slots)
-      (subst (λ (n : ℕ). Mirrors (StandsFor new.desk) n s r.new (Some config) true (slice_set old.slots k (slot_of next net'))) (sym makes.cap) r.mirrors));
+  mirrors = subst (λ (z : Generations). Mirrors (StandsFor new.desk) new.desk.cap s r.new z new.slots) (sym gens)
+      (subst (λ (z : List Slot). Mirrors (StandsFor new.desk) new.desk.cap s r.new old.gens z) (sym slots)
+      (subst (λ (n : ℕ). Mirrors (StandsFor new.desk) n s r.new old.gens (slice_set old.slots k (slot_of next net'))) (sym makes.cap) r.mirrors));
   still' = writes.still' ev refl refl refl took_c took_t put_c put_t;
-  line = shown r.new ev left r.line';
-  out = subst (λ (x : Record). new.out ≡ old.out ++ turn_shown ev x) is
+  line = shown r.new (old.gens).seen ev left r.line';
+  out = subst (λ (x : Record). new.out ≡ old.out ++ turn_shown (old.gens).seen ev x) is
       (writes.written ev refl (sym (ap (λ (x : Record). x.number) is ∙ t.number)) refl (left-tcp next t.goes_on) took_c took_t put_c put_t);
-  seen = seen;
+  gens = gens;
   others = r.others;
   count = (slot_of next net', slots);
 }
@@ -99,8 +106,8 @@ turned-at config k old new a net net' next still before at totals makes writes s
     mark : last_mark (t.result).marks ≡ None
     mark = sym (t.desk).mark ∙ makes.mark
 
-    r : Turned.IsTurned s w config old.slots k ev (slot_of next net') left (StandsFor new.desk) old.desk.cap
-    r = turned s w config old.slots k a net net' next (StandsFor old.desk) (StandsFor new.desk) old.desk.cap m at t mark
+    r : Turned.IsTurned s w old.gens old.slots k ev (slot_of next net') left (StandsFor new.desk) old.desk.cap
+    r = turned s w old.gens config old.slots k a net net' next (StandsFor old.desk) (StandsFor new.desk) old.desk.cap m is-config at t mark
 
     took_c : length (left_record next).c ≡ before.took_c + length ev.c
     took_c = longer (left_record next).c a.state.c ev.c before.took_c (ap (λ (x : Record). x.c) is ∙ t.c) (ap (λ (x : Totals). x.took_c) totals)
@@ -116,36 +123,55 @@ turned-at config k old new a net net' next still before at totals makes writes s
 
 -- what the association's outside gives for its turn
 the-turns : (config : Config) (k : ℕ) (old new : Replay) (a : Assoc LinkInMemory) (net net' : NetInMemory) (next : Next LinkInMemory)
-    → slice_get old.slots k ≡ Some (Slot.Going a net) → MakesTurn config old.desk new.desk a net next net'
-    → (s : Surroundings) (w : World) → Mirrors (StandsFor old.desk) old.desk.cap s w (Some config) true old.slots → IsPlain config
-    → Turns told_of_link (λ (l : LinkInMemory). l.counts) (StandsFor new.desk) (context w.users w.pubs 1 config w.cap w.h w.marks) 0 (told_of_net net) (told_of_net net') a next
-the-turns config k old new a net net' next at makes s w m plain =
-    subst (λ (n : ℕ). Turns told_of_link (λ (l : LinkInMemory). l.counts) (StandsFor new.desk) (context w.users w.pubs 1 config n w.h w.marks) 0 (told_of_net net) (told_of_net net') a next) m.cap'
-    (makes.turns w.users w.pubs w.h w.marks m.desk going.stands (record {
+    → slice_get old.slots k ≡ Some (Slot.Going a net) → MakesTurn (old.gens).seen config old.desk new.desk a net next net' → numbered (old.gens).configs (old.gens).seen ≡ Some config
+    → (s : Surroundings) (w : World) → Mirrors (StandsFor old.desk) old.desk.cap s w old.gens old.slots → IsPlain config
+    → Turns told_of_link (λ (l : LinkInMemory). l.counts) (StandsFor new.desk) (context w.users w.pubs (old.gens).seen config w.cap w.h w.marks) 0 (told_of_net net) (told_of_net net') a next
+the-turns config k old new a net net' next at makes is-config s w m plain =
+    subst (λ (n : ℕ). Turns told_of_link (λ (l : LinkInMemory). l.counts) (StandsFor new.desk) (context w.users w.pubs (old.gens).seen config n w.h w.marks) 0 (told_of_net net) (told_of_net net') a next) m.cap'
+    (makes.turns w.users w.pubs w.h w.marks m.desk (subst (λ (z : Basis). Stands told_of_link z a) (sym over) going.stands) (record {
       arrival = record { bytes = a.client.arrived; ends = a.client.ends };
       given = a.client.given;
       arrived' = refl;
       given' = refl;
       served = ap is_served_input going.arrived ∙ going.served;
-    }) plain going.since)
+    }) shown' plain going.since)
   where
-    found : (o : Outside) × (slice_get s.outsides k ≡ Some o) × IsSlot (1 + k) (Slot.Going a net) o
-    found = slot-at 1 old.slots s.outsides k (Slot.Going a net) m.slots' at
+    found : (o : Outside) × (slice_get s.outsides k ≡ Some o) × IsSlot (old.gens).configs (1 + k) (Slot.Going a net) o
+    found = slot-at (old.gens).configs 1 old.slots s.outsides k (Slot.Going a net) m.slots' at
 
-    going : IsGoing (1 + k) a net found.0
+    going : IsGoing (old.gens).configs (1 + k) a net found.0
     going = found.2
 
+    over : socks w.users w.pubs ≡ socks [] (old.gens).configs
+    over = ap (λ (us : List User). socks us w.pubs) m.users ∙ ap (λ (ks : List Config). socks [] ks) m.pubs
+
+    shown' : numbered w.pubs (old.gens).seen ≡ Some config
+    shown' = ap (λ (z : List Config). numbered z (old.gens).seen) m.pubs ∙ is-config
+
 -- one that has ended was put back
-pub turns-over : (config : Config) (k : ℕ) (old : Replay) (slots : List Slot) (e : Ended LinkInMemory) → slice_get old.slots k ≡ Some (Slot.Over e) → slots ≡ old.slots
-    → TurnsAt config k old (record { desk = old.desk; seen = old.seen; slots = slots; out = old.out }) true (Some (Slot.Over e))
-turns-over config k old slots e at h = (ap (λ (xs : List Slot). let new : Replay = record { desk = old.desk; seen = old.seen; slots = xs; out = old.out } in new) h, refl)
+pub turns-over : (k : ℕ) (old : Replay) (slots : List Slot) (e : Ended LinkInMemory) → slice_get old.slots k ≡ Some (Slot.Over e) → slots ≡ old.slots
+    → TurnsAt k old (record { desk = old.desk; gens = old.gens; slots = slots; out = old.out }) true (Some (Slot.Over e))
+turns-over k old slots e at h = (ap (λ (xs : List Slot). let new : Replay = record { desk = old.desk; gens = old.gens; slots = xs; out = old.out } in new) h, refl)
 
 pub turns-at : (config : Config) (k : ℕ) (old new : Replay) (a : Assoc LinkInMemory) (net net' : NetInMemory) (next : Next LinkInMemory) (still : Bool) (before : Totals)
     → slice_get old.slots k ≡ Some (Slot.Going a net) → before ≡ totals_of a.state
-    → MakesTurn config old.desk new.desk a net next net' → WritesTurn before next old.out new.out still
-    → new.slots ≡ slice_set old.slots k (slot_of next net') → new.seen ≡ old.seen
-    → TurnsAt config k old new still (Some (Slot.Going a net))
-turns-at config k old new a net net' next still before at totals makes writes slots seen = λ s w m saw plain.
-    let m' : Mirrors (StandsFor old.desk) old.desk.cap s w (Some config) true old.slots =
-    subst (λ (z : Bool). Mirrors (StandsFor old.desk) old.desk.cap s w (Some config) z old.slots) saw m in
-    turned-at config k old new a net net' next still before at totals makes writes slots seen s w m' saw (the-turns config k old new a net net' next at makes s w m' plain)
+    → MakesTurn (old.gens).seen config old.desk new.desk a net next net' → WritesTurn (old.gens).seen before next old.out new.out still
+    → new.slots ≡ slice_set old.slots k (slot_of next net') → new.gens ≡ old.gens → numbered (old.gens).configs (old.gens).seen ≡ Some config → IsPlain config
+    → TurnsAt k old new still (Some (Slot.Going a net))
+turns-at config k old new a net net' next still before at totals makes writes slots gens is-config plain = λ s w m.
+    turned-at config k old new a net net' next still before at totals makes writes slots gens is-config s w m
+    (the-turns config k old new a net net' next at makes is-config s w m plain)
+
+-- ---- the configuration of a turn
+
+all-at : {A : Type 0} (P : A → Type 0) (xs : List A) (i : ℕ) (x : A) → All P xs → slice_get xs i ≡ Some x → P x
+all-at P [] i x h at = cc
+all-at P (y ∷ ys) zero x h at = subst P (the-same y x at) (All-head P y ys h)
+  where
+    the-same : {A : Type 0} (a b : A) → Some a ≡ Some b → a ≡ b
+    the-same a b h = cc
+all-at P (y ∷ ys) (suc i) x h at = all-at P ys i x (All-tail P y ys h) at
+
+pub configured-at : (configs : List Config) (n : ℕ) (k : Config) → All IsConfigured configs → numbered configs n ≡ Some k → IsConfigured k
+configured-at configs zero k h at = cc
+configured-at configs (suc i) k h at = all-at IsConfigured configs i k h at

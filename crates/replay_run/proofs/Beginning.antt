@@ -1,5 +1,7 @@
 -- Where a script that is served begins: no users, one worker, and nothing published.
-use Rattle.std.proofs.Common.{◌≡◌, ap, refl, false, None, List, [], ◌∷◌}
+use Rattle.std.proofs.Common.{◌≡◌, ap, refl, List, [], ◌∷◌, arith}
+use Rattle.std.proofs.lemmas.List.Elements.{All-nil}
+use Rattle.generation.specs.Published.{none_published}
 use Rattle.session_desk.specs.Books.{Book}
 use Rattle.session_desk.specs.Standings.{StandsFor}
 use Rattle.socks_machine.specs.declared.script.ScriptLine.{ScriptLine}
@@ -9,6 +11,7 @@ use Rattle.socks_machine.specs.Step.{start as begun}
 use Rattle.replay_script.specs.declared.state.State.{State}
 use Rattle.replay_script.specs.Conditions.{IsServed, IsServedFrom, after, start}
 use Rattle.replay_run.specs.Behind.{IsBehind}
+use Rattle.replay_run.specs.Mirrors.{IsConfigured}
 use Rattle.replay_run.proofs.Playing.{plays-none}
 
 -- no line that is served gives users
@@ -61,7 +64,7 @@ one-worker state (ScriptLine.Stop ∷ ls) h = refl
 
 -- a desk of no lines, for as many associations as the script opens
 pub is-fresh : (desk : Book) (script : List ScriptLine) → StandsFor desk [] [] → desk.cap ≡ opens_of script → IsServed script
-    → IsBehind script [] start None (record { desk = desk; seen = false; slots = []; out = [] })
+    → IsBehind script [] start (record { desk = desk; gens = none_published; slots = []; out = [] })
 is-fresh desk script stands cap served = record {
   s = first_surroundings;
   w = begins script;
@@ -70,6 +73,7 @@ is-fresh desk script stands cap served = record {
     now = refl;
     users = no-users start script served;
     pubs = refl;
+    below = omega arith;
     seen' = ap (λ n. (begun (users_of script) (opens_of script) n).seen) (one-worker start script served);
     records = refl;
     slots' = tt;
@@ -79,10 +83,8 @@ is-fresh desk script stands cap served = record {
   };
   matches = record {
     published' = λ h. cc;
-    unpublished = λ h. refl;
-    order = λ h. cc;
-    seen' = refl;
+    seen' = λ h. cc;
     sides = tt;
-    plain = tt;
+    plain = All-nil IsConfigured;
   };
 }

@@ -82,13 +82,14 @@ target-room : (n : ℕ) (r : Record) (t : Option LinkInMemory) → HoldsTarget t
 target-room n r None h = h
 target-room n r (Some link) h = (h.0, holds-room n link r.t r.sent_t r.end_t r.shut_t h.1, h.2, h.3)
 
-going-arrives : (number : ℕ) (bytes : List ℕ) (a : Assoc LinkInMemory) (net : NetInMemory) (o : Outside) → IsGoing number a net o → o.end_c ≡ false
-    → is_served_input (o.c ++ bytes) ≡ true → IsSlot number (with_arrival bytes (Slot.Going a net)) (record o { c = o.c ++ bytes })
-going-arrives number bytes a net o h unended served = record {
+going-arrives : (pubs : List Config) (number : ℕ) (bytes : List ℕ) (a : Assoc LinkInMemory) (net : NetInMemory) (o : Outside) → IsGoing pubs number a net o → o.end_c ≡ false
+    → is_served_input (o.c ++ bytes) ≡ true → IsSlot pubs number (with_arrival bytes (Slot.Going a net)) (record o { c = o.c ++ bytes })
+going-arrives pubs number bytes a net o h unended served = record {
   number' = h.number';
   since = h.since;
   stands = record {
     plain = h.stands.plain;
+    direct = h.stands.direct;
     client = holds-bytes bytes a.client a.state.c a.state.sent_c a.state.end_c a.state.shut_c h.stands.client;
     client_ends = ends-none a.client (told_of_link (with_bytes bytes a.client)) refl (h.ends ∙ unended) h.stands.client_ends;
     client_first = gives-bytes bytes a.client h.stands.client_first;
@@ -108,13 +109,14 @@ mirrors-closed : (t : Option LinkInMemory) (net : NetInMemory) (o : Outside) →
 mirrors-closed None net o h = (record { arrived = h.0.arrived; ends = h.0.ends; unfailing = h.0.unfailing; cap = h.0.cap }, h.1)
 mirrors-closed (Some link) net o h = record { arrived = h.arrived; ends = h.ends; unfailing = h.unfailing; cap = h.cap }
 
-going-ends : (number : ℕ) (a : Assoc LinkInMemory) (net : NetInMemory) (o : Outside) → IsGoing number a net o → o.end_c ≡ false
-    → IsSlot number (with_client_end (Slot.Going a net)) (record o { end_c = true })
-going-ends number a net o h unended = record {
+going-ends : (pubs : List Config) (number : ℕ) (a : Assoc LinkInMemory) (net : NetInMemory) (o : Outside) → IsGoing pubs number a net o → o.end_c ≡ false
+    → IsSlot pubs number (with_client_end (Slot.Going a net)) (record o { end_c = true })
+going-ends pubs number a net o h unended = record {
   number' = h.number';
   since = h.since;
   stands = record {
     plain = h.stands.plain;
+    direct = h.stands.direct;
     client = holds-end a.client a.state.c a.state.sent_c a.state.end_c a.state.shut_c h.stands.client;
     client_ends = ends-none a.client (told_of_link (with_end a.client)) refl (h.ends ∙ unended) h.stands.client_ends;
     client_first = gives-end a.client h.stands.client_first;
@@ -148,13 +150,14 @@ target-end r (Some link) net o m unended h = (
   gives-end link h.3,
 )
 
-going-target-ends : (number : ℕ) (a : Assoc LinkInMemory) (net : NetInMemory) (o : Outside) → IsGoing number a net o → o.end_t ≡ false
-    → IsSlot number (with_target_end (Slot.Going a net)) (record o { end_t = true })
-going-target-ends number a net o h unended = record {
+going-target-ends : (pubs : List Config) (number : ℕ) (a : Assoc LinkInMemory) (net : NetInMemory) (o : Outside) → IsGoing pubs number a net o → o.end_t ≡ false
+    → IsSlot pubs number (with_target_end (Slot.Going a net)) (record o { end_t = true })
+going-target-ends pubs number a net o h unended = record {
   number' = h.number';
   since = h.since;
   stands = record {
     plain = h.stands.plain;
+    direct = h.stands.direct;
     client = h.stands.client;
     client_ends = h.stands.client_ends;
     client_first = h.stands.client_first;
@@ -178,9 +181,9 @@ mirrors-plan : (outcome : DialOutcome) (outer : Outer) (t : Option LinkInMemory)
 mirrors-plan outcome outer None net o same h = (is-plan net.link o outer h.0, same)
 mirrors-plan outcome outer (Some link) net o same h = is-plan link o outer h
 
-going-planned : (number : ℕ) (outcome : DialOutcome) (outer : Outer) (a : Assoc LinkInMemory) (net : NetInMemory) (o : Outside) → outer_of outcome ≡ outer
-    → IsGoing number a net o → IsSlot number (with_plan outcome (Slot.Going a net)) (record o { dial = outer })
-going-planned number outcome outer a net o same h = record {
+going-planned : (pubs : List Config) (number : ℕ) (outcome : DialOutcome) (outer : Outer) (a : Assoc LinkInMemory) (net : NetInMemory) (o : Outside) → outer_of outcome ≡ outer
+    → IsGoing pubs number a net o → IsSlot pubs number (with_plan outcome (Slot.Going a net)) (record o { dial = outer })
+going-planned pubs number outcome outer a net o same h = record {
   number' = h.number';
   since = h.since;
   stands = h.stands;
@@ -195,12 +198,12 @@ going-planned number outcome outer a net o same h = record {
 
 -- ---- the place of a line's association
 
-pub place-of : (l : ScriptLine) (config : Option Config) (r : Replay) (number : ℕ) (test : Side → Bool) (d : IsDue l config r)
-    → on_side (side_of d.state number) test ≡ true → IsPlace number test d.state.sides d.behind.s.outsides r.slots
-place-of l config r number test d h = placed d.state number test d.behind.s.outsides r.slots d.behind.matches.sides d.behind.mirrors.slots' h
+pub place-of : (l : ScriptLine) (r : Replay) (number : ℕ) (test : Side → Bool) (d : IsDue l r)
+    → on_side (side_of d.state number) test ≡ true → IsPlace r.gens.configs number test d.state.sides d.behind.s.outsides r.slots
+place-of l r number test d h = placed r.gens.configs d.state number test d.behind.s.outsides r.slots d.behind.matches.sides d.behind.mirrors.slots' h
 
-pub place-there : (number : ℕ) (test : Side → Bool) (sides : List Side) (os : List Outside) (slots : List Slot) → IsPlace number test sides os slots → number - 1 < length slots
-place-there number test sides os slots p = let h = place-within slots p.k p.slot p.slot-at in let e = p.number' in omega arith
+pub place-there : (pubs : List Config) (number : ℕ) (test : Side → Bool) (sides : List Side) (os : List Outside) (slots : List Slot) → IsPlace pubs number test sides os slots → number - 1 < length slots
+place-there pubs number test sides os slots p = let h = place-within slots p.k p.slot p.slot-at in let e = p.number' in omega arith
 
 pub still-there : (slots new : List Slot) (at : ℕ) (slot : Slot) → at < length slots → new ≡ slice_set slots at slot → at < length new
 still-there slots new at slot h e = let k = length-set slots at slot in let m = ap length e in omega arith
@@ -223,7 +226,7 @@ pub record Changes (l : ScriptLine) (number : ℕ) (test : Side → Bool) (outsi
   pub outside' : (s : Surroundings) → outside_after s l ≡ change s number outside
   pub state' : (state : State) → after state l ≡ change_side state number side
   pub is : (x : Side) (o : Outside) → IsSide x o → IsSide (side x) (outside o)
-  pub stands : (n : ℕ) (x : Side) (o : Outside) (y : Slot) → IsSide x o → test x ≡ true → IsSlot n y o → IsSlot n (slot y) (outside o)
+  pub stands : (pubs : List Config) (n : ℕ) (x : Side) (o : Outside) (y : Slot) → IsSide x o → test x ≡ true → IsSlot pubs n y o → IsSlot pubs n (slot y) (outside o)
   pub record' : (y : Slot) → record_of (slot y) ≡ record_of y
 
 outside-changed : (s : Surroundings) (number k : ℕ) (f : Outside → Outside) (o : Outside) → number ≡ suc k → slice_get s.outsides k ≡ Some o
@@ -239,39 +242,38 @@ records-same : (slots : List Slot) (k : ℕ) (x y : Slot) → slice_get slots k 
 records-same slots k x y at same = map-set-at record_of slots k y
     ∙ (ap (λ (r : Record). slice_set (map record_of slots) k r) same ∙ set-same (map record_of slots) k (record_of x) (get-map-at record_of slots k x at))
 
-pub changed : (script lines : List ScriptLine) (state : State) (config : Option Config) (old : Replay) (slots : List Slot) (l : ScriptLine) (number : ℕ) (test : Side → Bool)
+pub changed : (script lines : List ScriptLine) (state : State) (old : Replay) (slots : List Slot) (l : ScriptLine) (number : ℕ) (test : Side → Bool)
     (outside : Outside → Outside) (side : Side → Side) (slot : Slot → Slot) → Changes l number test outside side slot → on_side (side_of state number) test ≡ true
     → ((x : Slot) → slice_get old.slots (number - 1) ≡ Some x → slots ≡ slice_set old.slots (number - 1) (slot x))
-    → IsBehind script lines state config old → IsBehind script (lines ++ l ∷ []) (after state l) config (record old { slots = slots })
-changed script lines state config old slots l number test outside side slot h allowed written b = record {
+    → IsBehind script lines state old → IsBehind script (lines ++ l ∷ []) (after state l) (record old { slots = slots })
+changed script lines state old slots l number test outside side slot h allowed written b = record {
   s = s;
   w = b.w;
   played = subst (λ (z : Surroundings). Played script (lines ++ l ∷ []) z b.w old.out) (h.outside' b.s ∙ outside-changed b.s number p.k outside p.o p.number' p.outside-at)
       (plays-silent script lines b.s b.w old.out l b.played (h.silent b.w));
-  mirrors = subst (λ (z : List Slot). Mirrors (StandsFor old.desk) old.desk.cap s b.w config old.seen z) (sym there) (record {
+  mirrors = subst (λ (z : List Slot). Mirrors (StandsFor old.desk) old.desk.cap s b.w old.gens z) (sym there) (record {
     now = b.mirrors.now;
     users = b.mirrors.users;
     pubs = b.mirrors.pubs;
     seen' = b.mirrors.seen';
+    below = b.mirrors.below;
     records = b.mirrors.records ∙ sym (records-same old.slots p.k p.slot (slot p.slot) p.slot-at (h.record' p.slot));
-    slots' = slots-set 1 old.slots b.s.outsides p.k (slot p.slot) (outside p.o) b.mirrors.slots'
-        (subst (λ (n : ℕ). IsSlot n (slot p.slot) (outside p.o)) (omega arith) (h.stands (suc p.k) p.side p.o p.slot p.is p.passes p.stands));
+    slots' = slots-set old.gens.configs 1 old.slots b.s.outsides p.k (slot p.slot) (outside p.o) b.mirrors.slots'
+        (subst (λ (n : ℕ). IsSlot old.gens.configs n (slot p.slot) (outside p.o)) (omega arith) (h.stands old.gens.configs (suc p.k) p.side p.o p.slot p.is p.passes p.stands));
     desk = b.mirrors.desk;
     cap' = b.mirrors.cap';
     marks = b.mirrors.marks;
   });
-  matches = subst (λ (z : State). Matches z s config old.seen) (sym (h.state' state ∙ state-changed state number p.k side p.side p.number' p.side-at)) (record {
+  matches = subst (λ (z : State). Matches z s old.gens) (sym (h.state' state ∙ state-changed state number p.k side p.side p.number' p.side-at)) (record {
     published' = b.matches.published';
-    unpublished = b.matches.unpublished;
-    order = b.matches.order;
     seen' = b.matches.seen';
     sides = sides-set state.sides b.s.outsides p.k (side p.side) (outside p.o) b.matches.sides (h.is p.side p.o p.is);
     plain = b.matches.plain;
   });
 }
   where
-    p : IsPlace number test state.sides b.s.outsides old.slots
-    p = placed state number test b.s.outsides old.slots b.matches.sides b.mirrors.slots' allowed
+    p : IsPlace old.gens.configs number test state.sides b.s.outsides old.slots
+    p = placed old.gens.configs state number test b.s.outsides old.slots b.matches.sides b.mirrors.slots' allowed
 
     s : Surroundings
     s = record b.s { outsides = slice_set b.s.outsides p.k (outside p.o) }
@@ -301,11 +303,11 @@ client-changes number bytes = record {
   record' = by-record;
 }
   where
-    by-slot : (n : ℕ) (x : Side) (o : Outside) (y : Slot) → IsSide x o → may_send bytes x ≡ true → IsSlot n y o → IsSlot n (with_arrival bytes y) (record o { c = o.c ++ bytes })
-    by-slot n x o (Slot.Going a net) i t h = let e = send-allowed bytes x t in
-        going-arrives n bytes a net o h (sym i.1 ∙ e.0) (subst (λ (z : List ℕ). is_served_input (z ++ bytes) ≡ true) i.0 e.1)
-    by-slot n x o (Slot.Over e) i t h = h
-    by-slot n x o Slot.Away i t h = absurd h
+    by-slot : (pubs : List Config) (n : ℕ) (x : Side) (o : Outside) (y : Slot) → IsSide x o → may_send bytes x ≡ true → IsSlot pubs n y o → IsSlot pubs n (with_arrival bytes y) (record o { c = o.c ++ bytes })
+    by-slot pubs n x o (Slot.Going a net) i t h = let e = send-allowed bytes x t in
+        going-arrives pubs n bytes a net o h (sym i.1 ∙ e.0) (subst (λ (z : List ℕ). is_served_input (z ++ bytes) ≡ true) i.0 e.1)
+    by-slot pubs n x o (Slot.Over e) i t h = h
+    by-slot pubs n x o Slot.Away i t h = absurd h
 
     by-record : (y : Slot) → record_of (with_arrival bytes y) ≡ record_of y
     by-record (Slot.Going a net) = refl
@@ -322,10 +324,10 @@ client-end-changes number = record {
   record' = by-record;
 }
   where
-    by-slot : (n : ℕ) (x : Side) (o : Outside) (y : Slot) → IsSide x o → may_end x ≡ true → IsSlot n y o → IsSlot n (with_client_end y) (record o { end_c = true })
-    by-slot n x o (Slot.Going a net) i t h = going-ends n a net o h (sym i.1 ∙ not-true x.end_c (and_parts (not x.end_c) _ t).0)
-    by-slot n x o (Slot.Over e) i t h = h
-    by-slot n x o Slot.Away i t h = absurd h
+    by-slot : (pubs : List Config) (n : ℕ) (x : Side) (o : Outside) (y : Slot) → IsSide x o → may_end x ≡ true → IsSlot pubs n y o → IsSlot pubs n (with_client_end y) (record o { end_c = true })
+    by-slot pubs n x o (Slot.Going a net) i t h = going-ends pubs n a net o h (sym i.1 ∙ not-true x.end_c (and_parts (not x.end_c) _ t).0)
+    by-slot pubs n x o (Slot.Over e) i t h = h
+    by-slot pubs n x o Slot.Away i t h = absurd h
 
     by-record : (y : Slot) → record_of (with_client_end y) ≡ record_of y
     by-record (Slot.Going a net) = refl
@@ -343,10 +345,10 @@ target-end-changes number = record {
   record' = by-record;
 }
   where
-    by-slot : (n : ℕ) (x : Side) (o : Outside) (y : Slot) → IsSide x o → not x.end_t ≡ true → IsSlot n y o → IsSlot n (with_target_end y) (record o { end_t = true })
-    by-slot n x o (Slot.Going a net) i t h = going-target-ends n a net o h (sym i.2 ∙ not-true x.end_t t)
-    by-slot n x o (Slot.Over e) i t h = h
-    by-slot n x o Slot.Away i t h = absurd h
+    by-slot : (pubs : List Config) (n : ℕ) (x : Side) (o : Outside) (y : Slot) → IsSide x o → not x.end_t ≡ true → IsSlot pubs n y o → IsSlot pubs n (with_target_end y) (record o { end_t = true })
+    by-slot pubs n x o (Slot.Going a net) i t h = going-target-ends pubs n a net o h (sym i.2 ∙ not-true x.end_t t)
+    by-slot pubs n x o (Slot.Over e) i t h = h
+    by-slot pubs n x o Slot.Away i t h = absurd h
 
     by-record : (y : Slot) → record_of (with_target_end y) ≡ record_of y
     by-record (Slot.Going a net) = refl
@@ -364,10 +366,10 @@ dial-changes number outer outcome same = record {
   record' = by-record;
 }
   where
-    by-slot : (n : ℕ) (x : Side) (o : Outside) (y : Slot) → IsSide x o → not x.dialled ≡ true → IsSlot n y o → IsSlot n (with_plan outcome y) (record o { dial = outer })
-    by-slot n x o (Slot.Going a net) i t h = going-planned n outcome outer a net o same h
-    by-slot n x o (Slot.Over e) i t h = h
-    by-slot n x o Slot.Away i t h = absurd h
+    by-slot : (pubs : List Config) (n : ℕ) (x : Side) (o : Outside) (y : Slot) → IsSide x o → not x.dialled ≡ true → IsSlot pubs n y o → IsSlot pubs n (with_plan outcome y) (record o { dial = outer })
+    by-slot pubs n x o (Slot.Going a net) i t h = going-planned pubs n outcome outer a net o same h
+    by-slot pubs n x o (Slot.Over e) i t h = h
+    by-slot pubs n x o Slot.Away i t h = absurd h
 
     by-record : (y : Slot) → record_of (with_plan outcome y) ≡ record_of y
     by-record (Slot.Going a net) = refl
@@ -375,9 +377,9 @@ dial-changes number outer outcome same = record {
     by-record Slot.Away = refl
 
 -- more can arrive from the client at the place of its line
-pub may-arrive : (number : ℕ) (bytes : List ℕ) (sides : List Side) (os : List Outside) (slots : List Slot) → IsPlace number (may_send bytes) sides os slots
+pub may-arrive : (pubs : List Config) (number : ℕ) (bytes : List ℕ) (sides : List Side) (os : List Outside) (slots : List Slot) → IsPlace pubs number (may_send bytes) sides os slots
     → (slot : Slot) → slice_get slots (number - 1) ≡ Some slot → MayArrive slot
-may-arrive number bytes sides os slots p slot found = subst MayArrive same (by-slot p.slot p.stands)
+may-arrive pubs number bytes sides os slots p slot found = subst MayArrive same (by-slot p.slot p.stands)
   where
     at : number - 1 ≡ p.k
     at = let e = p.number' in omega arith
@@ -388,7 +390,7 @@ may-arrive number bytes sides os slots p slot found = subst MayArrive same (by-s
     same : p.slot ≡ slot
     same = cc (p.slot-at, found')
 
-    by-slot : (y : Slot) → IsSlot (suc p.k) y p.o → MayArrive y
+    by-slot : (y : Slot) → IsSlot pubs (suc p.k) y p.o → MayArrive y
     by-slot (Slot.Going a net) h = h.ends ∙ (sym p.is.1 ∙ (send-allowed bytes p.side p.passes).0)
     by-slot (Slot.Over e) h = tt
     by-slot Slot.Away h = absurd h

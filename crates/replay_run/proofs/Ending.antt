@@ -1,6 +1,7 @@
 -- What became of each association, where all of a script was played.
 use Rattle.std.proofs.Common.{ℕ, suc, ◌≡◌, ◌∙◌, sym, ap, subst, refl, List, [], ◌∷◌, ◌++◌, map, Result, Ok, Err}
 use Rattle.std.specs.Prelude.{flat_map, IfOk}
+use Rattle.conf_model.specs.declared.config.Config.{Config}
 use Rattle.socks_machine.specs.declared.record.Record.{Record}
 use Rattle.socks_machine.specs.declared.script.ScriptLine.{ScriptLine}
 use Rattle.socks_machine.specs.declared.world.World.{World}
@@ -30,15 +31,15 @@ slots-ends basis (slot ∷ slots) = ap (λ (z : List ℕ). z ++ all_ends basis s
 world-ends : (w : World) (slots : List Slot) → w.records ≡ map record_of slots → all_ends (basis_of w) slots ≡ ends w
 world-ends w slots h = slots-ends (basis_of w) slots ∙ ap (flat_map (ends_of (basis_of w))) (sym h)
 
-slot-ungrammed : (number : ℕ) (slot : Slot) (o : Outside) → IsSlot number slot o → IsUngrammed slot
-slot-ungrammed number (Slot.Going a net) o h = (plain-tcp a.state h.stands.plain, h.stands.plain.sent_u)
-slot-ungrammed number (Slot.Over e) o h = (h.1, h.2)
-slot-ungrammed number Slot.Away o h = h
+slot-ungrammed : (pubs : List Config) (number : ℕ) (slot : Slot) (o : Outside) → IsSlot pubs number slot o → IsUngrammed slot
+slot-ungrammed pubs number (Slot.Going a net) o h = (plain-tcp a.state h.stands.plain, h.stands.plain.sent_u)
+slot-ungrammed pubs number (Slot.Over e) o h = (h.1, h.2)
+slot-ungrammed pubs number Slot.Away o h = h
 
-slots-ungrammed : (number : ℕ) (slots : List Slot) (os : List Outside) → AreSlots number slots os → AreUngrammed slots
-slots-ungrammed number [] os h = tt
-slots-ungrammed number (slot ∷ slots) [] h = absurd h
-slots-ungrammed number (slot ∷ slots) (o ∷ os) h = (slot-ungrammed number slot o h.0, slots-ungrammed (suc number) slots os h.1)
+slots-ungrammed : (pubs : List Config) (number : ℕ) (slots : List Slot) (os : List Outside) → AreSlots pubs number slots os → AreUngrammed slots
+slots-ungrammed pubs number [] os h = tt
+slots-ungrammed pubs number (slot ∷ slots) [] h = absurd h
+slots-ungrammed pubs number (slot ∷ slots) (o ∷ os) h = (slot-ungrammed pubs number slot o h.0, slots-ungrammed pubs (suc number) slots os h.1)
 
 -- with what became of each association, the transcript is whole
 pub is-whole : (script : List ScriptLine) (r : Replay) (out : List ℕ) → IsPlayedOut script r
@@ -46,7 +47,7 @@ pub is-whole : (script : List ScriptLine) (r : Replay) (out : List ℕ) → IsPl
 is-whole script r out played written = (
   played.w,
   subst (IsReplay script played.w)
-      (sym (written (slots-ungrammed 1 r.slots (played.s).outsides (played.mirrors).slots') (basis_of played.w)
+      (sym (written (slots-ungrammed (r.gens).configs 1 r.slots (played.s).outsides (played.mirrors).slots') (basis_of played.w)
       ∙ ap (λ (z : List ℕ). r.out ++ z) (world-ends played.w r.slots (played.mirrors).records))) played.done,
 )
 

@@ -1,27 +1,22 @@
 -- A line that a replay has met: which one it is, and that the replay is behind it.
-use Rattle.std.proofs.Common.{ℕ, suc, ◌≡◌, ◌<◌, ◌+◌, ◌∙◌, sym, ap, subst, refl, Option, Some, None, List, [], ◌∷◌, ◌++◌, length, take, drop, get_or, drop-cons, arith}
+use Rattle.std.proofs.Common.{ℕ, suc, ◌≡◌, ◌<◌, ◌+◌, ◌∙◌, sym, ap, subst, refl, List, [], ◌∷◌, ◌++◌, length, take, drop, get_or, drop-cons, arith}
 use Rattle.std.proofs.lemmas.List.{take_more}
-use Rattle.std.specs.Prelude.{IfSome}
-use denote.Ref.{Bor}
 use Rattle.addr_pattern.specs.declared.endpoint.Endpoint.{Endpoint}
 use Rattle.conf_model.specs.declared.config.Config.{Config}
 use Rattle.socks_machine.specs.declared.script.ScriptLine.{ScriptLine}
 use Rattle.socks_machine.specs.declared.world.Outer.{Outer}
-use Rattle.rule_list.specs.Numbers.{FitsNumbers}
 use Rattle.replay_script.specs.declared.state.State.{State}
 use Rattle.replay_script.specs.Conditions.{IsServedForm, IsServedFrom}
 use Rattle.replay_run.specs.declared.state.Replay.{Replay}
-use Rattle.replay_run.specs.Behind.{GoesBehind, IsDue, config_of}
-use Rattle.replay_run.specs.Mirrors.{IsConfigured}
+use Rattle.replay_run.specs.Behind.{GoesBehind, IsDue}
 
 -- the same line, and the same replay behind it
-pub goes-as : (l l' : ScriptLine) (config config' : Option Config) (old new new' : Replay) → l ≡ l' → new ≡ new' → GoesBehind l' config config' old new'
-    → GoesBehind l config config' old new
-goes-as l l' config config' old new new' is same goes =
-    subst (λ (z : ScriptLine). GoesBehind z config config' old new) (sym is) (subst (λ (z : Replay). GoesBehind l' config config' old z) (sym same) goes)
+pub goes-as : (l l' : ScriptLine) (old new new' : Replay) → l ≡ l' → new ≡ new' → GoesBehind l' old new' → GoesBehind l old new
+goes-as l l' old new new' is same goes =
+    subst (λ (z : ScriptLine). GoesBehind z old new) (sym is) (subst (λ (z : Replay). GoesBehind l' old z) (sym same) goes)
 
-pub due-as : (l l' : ScriptLine) (config : Option Config) (r : Replay) → l ≡ l' → IsDue l config r → IsDue l' config r
-due-as l l' config r is due = subst (λ (z : ScriptLine). IsDue z config r) is due
+pub due-as : (l l' : ScriptLine) (r : Replay) → l ≡ l' → IsDue l r → IsDue l' r
+due-as l l' r is due = subst (λ (z : ScriptLine). IsDue z r) is due
 
 -- the worker of a line is number 1
 pub sees-first : (l : ScriptLine) (w : ℕ) → IsServedForm l → l ≡ ScriptLine.See w → l ≡ ScriptLine.See 1
@@ -29,7 +24,7 @@ sees-first l w form is = is ∙ ap ScriptLine.See (subst IsServedForm is form)
 
 pub opens-first : (l : ScriptLine) (w a : ℕ) (peer local : Endpoint) → IsServedForm l → l ≡ ScriptLine.Open w a peer local → l ≡ ScriptLine.Open 1 a peer local
 opens-first l w a peer local form is = let h : IsServedForm (ScriptLine.Open w a peer local) = subst IsServedForm is form in
-    is ∙ ap (λ (n : ℕ). ScriptLine.Open n a peer local) h.0
+    is ∙ ap (λ (n : ℕ). ScriptLine.Open n a peer local) h
 
 pub turns-first : (l : ScriptLine) (w a : ℕ) → IsServedForm l → l ≡ ScriptLine.Turn w a → l ≡ ScriptLine.Turn 1 a
 turns-first l w a form is = is ∙ ap (λ (n : ℕ). ScriptLine.Turn n a) (subst IsServedForm is form)
@@ -74,8 +69,3 @@ next-served state ls i l within is h = subst (IsServedFrom state) (next-left ls 
 -- the lines that were played, with the next one
 pub next-taken : (ls : List ScriptLine) (i : ℕ) (l : ScriptLine) → i < length ls → l ≡ get_or ls i l → take (i + 1) ls ≡ take i ls ++ l ∷ []
 next-taken ls i l within is = take_more ls i l within ∙ ap (λ z. take i ls ++ z ∷ []) (sym is)
-
--- a configuration that was published has numbers that fit
-pub fits-published : (config : Option (Bor Config)) → IsConfigured (config_of config) → IfSome config (λ k. FitsNumbers k.now)
-fits-published None h = tt
-fits-published (Some k) h = h.1

@@ -1,8 +1,9 @@
 -- The lines that are an event for themselves: a configuration is published, worker 1 sees it, an association is opened.
-use Rattle.std.proofs.Common.{ℕ, suc, ◌≡◌, ◌==◌, ◌+◌, ◌∙◌, sym, ap, subst, refl, Bool, true, false, ◌&&◌, nat_lt, Option, Some, None, List, [], ◌∷◌, ◌++◌, length, map, arith}
-use Rattle.std.proofs.lemmas.Bool.{eqb-true, not-true}
+use Rattle.std.proofs.Common.{ℕ, suc, ◌≡◌, ◌==◌, ◌+◌, ◌∙◌, sym, ap, subst, refl, true, ◌&&◌, nat_lt, nat_le, ◌<◌, ◌≤◌, Option, Some, None, List, [], ◌∷◌, ◌++◌, length, length-append, map, arith}
+use Rattle.std.proofs.lemmas.Bool.{eqb-true, le-leb}
 use Rattle.std.proofs.lemmas.List.{length-map, map-append}
-use Rattle.std.specs.Prelude.{codes}
+use Rattle.std.proofs.lemmas.List.Elements.{All-push}
+use Rattle.std.specs.Prelude.{codes, slice_get}
 use Rattle.addr_pattern.specs.declared.endpoint.Endpoint.{Endpoint}
 use Rattle.addr_pattern.specs.AddressText.{number_text}
 use Rattle.conf_model.specs.declared.config.Config.{Config}
@@ -11,9 +12,13 @@ use Rattle.socks_machine.specs.declared.script.ScriptLine.{ScriptLine}
 use Rattle.socks_machine.specs.declared.world.Event.{Event}
 use Rattle.socks_machine.specs.declared.world.World.{World}
 use Rattle.socks_machine.specs.Script.{Outside, Surroundings, nothing_yet}
-use Rattle.socks_machine.specs.Step.{fresh, step, when}
+use Rattle.socks_machine.specs.Socks.{socks}
+use Rattle.socks_machine.specs.Step.{fresh, seen_by, step, when}
+use Rattle.socks_machine.specs.Taking.{◌>>=◌}
 use Rattle.socks_machine.specs.Transcript.{event_line, line}
+use Rattle.generation.specs.Published.{Generations, with_config}
 use Rattle.assoc_core.specs.Stands.{Stands}
+use Rattle.assoc_core.proofs.Later.{stands-published}
 use Rattle.replay_script.specs.declared.state.Side.{Side}
 use Rattle.replay_script.specs.declared.state.State.{State}
 use Rattle.replay_script.specs.Conditions.{IsServedForm, after, allows, fresh_side}
@@ -21,7 +26,7 @@ use Rattle.replay_run.specs.declared.slot.Slot.{Slot}
 use Rattle.replay_run.specs.declared.state.Replay.{Replay}
 use Rattle.replay_run.specs.Behind.{IsBehind}
 use Rattle.replay_run.specs.Changes.{opened_slot, room_for_replies}
-use Rattle.replay_run.specs.Mirrors.{AreSides, AreSlots, IsSlot, published, record_of, seen_by_workers}
+use Rattle.replay_run.specs.Mirrors.{AreSides, AreSlots, IsConfigured, IsSlot, record_of, seen_by_workers}
 use Rattle.replay_run.specs.Played.{Played}
 use Rattle.replay_run.specs.Shown.{open_shown, publish_shown, see_shown}
 use Rattle.replay_run.proofs.Places.{sides-more}
@@ -30,102 +35,135 @@ use Rattle.replay_run.proofs.Slots.{slots-more}
 
 -- ---- a configuration is published
 
-publish-line : (w : World) (k : Config) → length w.pubs ≡ 1 → event_line w (Event.Publish k) ≡ publish_shown
+publish-line : (w : World) (k : Config) (n : ℕ) → length w.pubs ≡ n → event_line w (Event.Publish k) ≡ publish_shown n
 unfolding publish_shown
-publish-line w k h = ap (λ n. line (codes "publish" ∷ number_text n ∷ [])) h
+publish-line w k n h = ap (λ n. line (codes "publish" ∷ number_text n ∷ [])) h
 
-pub publishes : (script lines : List ScriptLine) (state : State) (config : Option Config) (k : Config) (old : Replay) (out : List ℕ)
-    → out ≡ old.out ++ publish_shown → IsServedForm (ScriptLine.Publish k) → allows state (ScriptLine.Publish k) ≡ true → IsBehind script lines state config old
-    → IsBehind script (lines ++ ScriptLine.Publish k ∷ []) (after state (ScriptLine.Publish k)) (Some k) (record old { out = out })
-publishes script lines state config k old out written form allowed b = record {
-  s = b.s;
-  w = w;
-  played = subst (λ (z : List ℕ). Played script (lines ++ ScriptLine.Publish k ∷ []) b.s w z)
-      (ap (λ z. old.out ++ z) (publish-line w k (ap length pubs)) ∙ sym written)
-      (plays-event script lines b.s b.w w old.out (ScriptLine.Publish k) (Event.Publish k) [] b.played refl refl refl refl);
-  mirrors = record {
-    now = b.mirrors.now;
-    users = b.mirrors.users;
-    pubs = pubs;
-    seen' = b.mirrors.seen';
-    records = b.mirrors.records;
-    slots' = b.mirrors.slots';
-    desk = b.mirrors.desk;
-    cap' = b.mirrors.cap';
-    marks = b.mirrors.marks;
-  };
-  matches = record {
-    published' = λ h. refl;
-    unpublished = λ h. absurd (cc);
-    order = λ h. refl;
-    seen' = b.matches.seen';
-    sides = b.matches.sides;
-    plain = form;
-  };
-}
+-- what stood for its record stands for it still
+slots-later : (pubs : List Config) (k : Config) (number : ℕ) (slots : List Slot) (os : List Outside) → AreSlots pubs number slots os → AreSlots (pubs ++ k ∷ []) number slots os
+slots-later pubs k number [] [] h = tt
+slots-later pubs k number [] (o ∷ os) h = absurd h
+slots-later pubs k number (slot ∷ slots) [] h = absurd h
+slots-later pubs k number (slot ∷ slots) (o ∷ os) h = (slot-later number slot o h.0, slots-later pubs k (suc number) slots os h.1)
+  where
+    slot-later : (n : ℕ) (slot : Slot) (o : Outside) → IsSlot pubs n slot o → IsSlot (pubs ++ k ∷ []) n slot o
+    slot-later n (Slot.Going a net) o h = record {
+      number' = h.number';
+      since = h.since;
+      stands = stands-published told_of_link [] pubs k a h.stands;
+      arrived = h.arrived;
+      ends = h.ends;
+      unfailing = h.unfailing;
+      cap = h.cap;
+      served = h.served;
+      target = h.target;
+      quiet = h.quiet;
+    }
+    slot-later n (Slot.Over e) o h = h
+    slot-later n Slot.Away o h = h
+
+pub publishes : (script lines : List ScriptLine) (state : State) (k : Config) (old : Replay) (gens : Generations) (out : List ℕ)
+    → gens ≡ with_config old.gens k → out ≡ old.out ++ publish_shown (length gens.configs) → IsServedForm (ScriptLine.Publish k) → IsBehind script lines state old
+    → IsBehind script (lines ++ ScriptLine.Publish k ∷ []) (after state (ScriptLine.Publish k)) (record old { gens = gens; out = out })
+publishes script lines state k old gens out is written form b =
+    subst (λ (z : Generations). IsBehind script (lines ++ ScriptLine.Publish k ∷ []) (after state (ScriptLine.Publish k)) (record old { gens = z; out = out })) (sym is)
+    (published (subst (λ (z : Generations). out ≡ old.out ++ publish_shown (length z.configs)) is written))
   where
     w : World
     w = record b.w { pubs = (b.w).pubs ++ k ∷ [] }
 
-    pubs : (b.w).pubs ++ k ∷ [] ≡ k ∷ []
-    pubs = ap (λ z. z ++ k ∷ []) (b.mirrors.pubs ∙ ap published (b.matches.unpublished (not-true state.published allowed)))
+    pubs : (b.w).pubs ++ k ∷ [] ≡ old.gens.configs ++ k ∷ []
+    pubs = ap (λ z. z ++ k ∷ []) b.mirrors.pubs
+
+    published : out ≡ old.out ++ publish_shown (length (old.gens.configs ++ k ∷ []))
+        → IsBehind script (lines ++ ScriptLine.Publish k ∷ []) (after state (ScriptLine.Publish k)) (record old { gens = with_config old.gens k; out = out })
+    published written = record {
+      s = b.s;
+      w = w;
+      played = subst (λ (z : List ℕ). Played script (lines ++ ScriptLine.Publish k ∷ []) b.s w z)
+          (ap (λ z. old.out ++ z) (publish-line w k (length (old.gens.configs ++ k ∷ [])) (ap length pubs)) ∙ sym written)
+          (plays-event script lines b.s b.w w old.out (ScriptLine.Publish k) (Event.Publish k) [] b.played refl refl refl refl);
+      mirrors = record {
+        now = b.mirrors.now;
+        users = b.mirrors.users;
+        pubs = pubs;
+        seen' = b.mirrors.seen';
+        below = let h = b.mirrors.below in let e = length-append old.gens.configs (k ∷ []) in omega (arith, h, e);
+        records = b.mirrors.records;
+        slots' = slots-later old.gens.configs k 1 old.slots b.s.outsides b.mirrors.slots';
+        desk = b.mirrors.desk;
+        cap' = b.mirrors.cap';
+        marks = b.mirrors.marks;
+      };
+      matches = record {
+        published' = λ h. let e = length-append old.gens.configs (k ∷ []) in omega (arith, e);
+        seen' = b.matches.seen';
+        sides = b.matches.sides;
+        plain = All-push IsConfigured old.gens.configs k b.matches.plain form;
+      };
+    }
 
 -- ---- worker 1 sees it
 
-see-line : (w : World) (n : ℕ) → n ≡ 1 → event_line w (Event.See 1 n) ≡ see_shown
+see-line : (w : World) (n m : ℕ) → n ≡ m → event_line w (Event.See 1 n) ≡ see_shown m
 unfolding see_shown
-see-line w n h = ap (λ m. line (codes "see" ∷ number_text 1 ∷ number_text m ∷ [])) h
+see-line w n m h = ap (λ m. line (codes "see" ∷ number_text 1 ∷ number_text m ∷ [])) h
 
-abbrev SeesAt : World → List Config → List ℕ → Type 0
-SeesAt w pubs seen = step (record w { pubs = pubs; seen = seen }) (Event.See 1 (length pubs)) ≡ Some (record w { pubs = pubs; seen = seen_by_workers true })
+holds-all : (n before most : ℕ) → 0 < n → before ≤ n → n ≤ most → nat_le 1 n && nat_le before n && nat_le n most ≡ true
+holds-all n before most some late within =
+    ap (λ b. b && nat_le before n && nat_le n most) (le-leb 1 n (omega (arith, some)))
+    ∙ (ap (λ b. true && b && nat_le n most) (le-leb before n late) ∙ ap (λ b. true && true && b) (le-leb n most within))
 
-see-step : (w : World) (k : Config) (seen : Bool) → w.pubs ≡ k ∷ [] → w.seen ≡ seen_by_workers seen
-    → step w (Event.See 1 (length w.pubs)) ≡ Some (record w { seen = seen_by_workers true })
-see-step w k seen pubs saw = subst (λ (z : List Config). SeesAt w z w.seen) (sym pubs) (subst (λ (z : List ℕ). SeesAt w (k ∷ []) z) (sym saw) (either seen))
+pub see-step : (w : World) (gens : Generations) → w.pubs ≡ gens.configs → w.seen ≡ seen_by_workers gens.seen → gens.seen ≤ length gens.configs → 0 < length gens.configs
+    → step w (Event.See 1 (length w.pubs)) ≡ Some (record w { seen = seen_by_workers (length gens.configs) })
+see-step w gens pubs saw below some =
+    ap (λ (ns : List ℕ). slice_get ns 1 >>= seen_by (record w { seen = ns }) 1 (length w.pubs)) saw
+    ∙ (ap (λ b. when b (record w { seen = seen_by_workers (length w.pubs) })) (holds-all (length w.pubs) gens.seen (length w.pubs) some' below' (omega arith))
+    ∙ ap (λ n. let x : Option World = Some (record w { seen = seen_by_workers n }) in x) (ap length pubs))
   where
-    either : (b : Bool) → SeesAt w (k ∷ []) (seen_by_workers b)
-    either true = refl
-    either false = refl
+    some' : 0 < length w.pubs
+    some' = subst (λ n. 0 < n) (sym (ap length pubs)) some
 
-sees-one : (script lines : List ScriptLine) (state : State) (k : Config) (old : Replay) (out : List ℕ) → out ≡ old.out ++ see_shown
-    → IsBehind script lines state (Some k) old
-    → IsBehind script (lines ++ ScriptLine.See 1 ∷ []) (after state (ScriptLine.See 1)) (Some k) (record old { seen = true; out = out })
-sees-one script lines state k old out written b = record {
-  s = b.s;
-  w = w;
-  played = subst (λ (z : List ℕ). Played script (lines ++ ScriptLine.See 1 ∷ []) b.s w z)
-      (ap (λ z. old.out ++ z) (see-line w (length (b.w).pubs) (ap length b.mirrors.pubs)) ∙ sym written)
-      (plays-event script lines b.s b.w w old.out (ScriptLine.See 1) (Event.See 1 (length (b.w).pubs)) [] b.played refl refl
-      (see-step b.w k old.seen b.mirrors.pubs b.mirrors.seen') refl);
-  mirrors = record {
-    now = b.mirrors.now;
-    users = b.mirrors.users;
-    pubs = b.mirrors.pubs;
-    seen' = refl;
-    records = b.mirrors.records;
-    slots' = b.mirrors.slots';
-    desk = b.mirrors.desk;
-    cap' = b.mirrors.cap';
-    marks = b.mirrors.marks;
-  };
-  matches = record {
-    published' = b.matches.published';
-    unpublished = b.matches.unpublished;
-    order = λ h. refl;
-    seen' = refl;
-    sides = b.matches.sides;
-    plain = b.matches.plain;
-  };
-}
+    below' : gens.seen ≤ length w.pubs
+    below' = subst (λ n. gens.seen ≤ n) (sym (ap length pubs)) below
+
+pub sees : (script lines : List ScriptLine) (state : State) (old : Replay) (gens : Generations) (out : List ℕ)
+    → gens ≡ record old.gens { seen = length old.gens.configs } → out ≡ old.out ++ see_shown (length old.gens.configs) → 0 < length old.gens.configs
+    → IsBehind script lines state old
+    → IsBehind script (lines ++ ScriptLine.See 1 ∷ []) (after state (ScriptLine.See 1)) (record old { gens = gens; out = out })
+sees script lines state old gens out is written some b =
+    subst (λ (z : Generations). IsBehind script (lines ++ ScriptLine.See 1 ∷ []) (after state (ScriptLine.See 1)) (record old { gens = z; out = out })) (sym is) seen
   where
     w : World
-    w = record b.w { seen = seen_by_workers true }
+    w = record b.w { seen = seen_by_workers (length old.gens.configs) }
 
-pub sees : (script lines : List ScriptLine) (state : State) (config : Option Config) (old : Replay) (out : List ℕ) → out ≡ old.out ++ see_shown
-    → allows state (ScriptLine.See 1) ≡ true → IsBehind script lines state config old
-    → IsBehind script (lines ++ ScriptLine.See 1 ∷ []) (after state (ScriptLine.See 1)) config (record old { seen = true; out = out })
-sees script lines state None old out written allowed b = let none : false ≡ true = b.matches.published' allowed in absurd (cc)
-sees script lines state (Some k) old out written allowed b = sees-one script lines state k old out written b
+    seen : IsBehind script (lines ++ ScriptLine.See 1 ∷ []) (after state (ScriptLine.See 1)) (record old { gens = record old.gens { seen = length old.gens.configs }; out = out })
+    seen = record {
+      s = b.s;
+      w = w;
+      played = subst (λ (z : List ℕ). Played script (lines ++ ScriptLine.See 1 ∷ []) b.s w z)
+          (ap (λ z. old.out ++ z) (see-line w (length (b.w).pubs) (length old.gens.configs) (ap length b.mirrors.pubs)) ∙ sym written)
+          (plays-event script lines b.s b.w w old.out (ScriptLine.See 1) (Event.See 1 (length (b.w).pubs)) [] b.played refl refl
+          (see-step b.w old.gens b.mirrors.pubs b.mirrors.seen' b.mirrors.below some) refl);
+      mirrors = record {
+        now = b.mirrors.now;
+        users = b.mirrors.users;
+        pubs = b.mirrors.pubs;
+        seen' = refl;
+        below = omega arith;
+        records = b.mirrors.records;
+        slots' = b.mirrors.slots';
+        desk = b.mirrors.desk;
+        cap' = b.mirrors.cap';
+        marks = b.mirrors.marks;
+      };
+      matches = record {
+        published' = b.matches.published';
+        seen' = λ h. some;
+        sides = b.matches.sides;
+        plain = b.matches.plain;
+      };
+    }
 
 -- ---- an association is opened
 
@@ -139,16 +177,16 @@ sides-length [] (o ∷ os) h = absurd h
 sides-length (x ∷ xs) [] h = absurd h
 sides-length (x ∷ xs) (o ∷ os) h = ap (λ (n : ℕ). suc n) (sides-length xs os h.3)
 
-slots-length : (number : ℕ) (slots : List Slot) (os : List Outside) → AreSlots number slots os → length slots ≡ length os
-slots-length number [] [] h = refl
-slots-length number [] (o ∷ os) h = absurd h
-slots-length number (x ∷ xs) [] h = absurd h
-slots-length number (x ∷ xs) (o ∷ os) h = ap (λ (n : ℕ). suc n) (slots-length (suc number) xs os h.1)
+slots-length : (pubs : List Config) (number : ℕ) (slots : List Slot) (os : List Outside) → AreSlots pubs number slots os → length slots ≡ length os
+slots-length pubs number [] [] h = refl
+slots-length pubs number [] (o ∷ os) h = absurd h
+slots-length pubs number (x ∷ xs) [] h = absurd h
+slots-length pubs number (x ∷ xs) (o ∷ os) h = ap (λ (n : ℕ). suc n) (slots-length pubs (suc number) xs os h.1)
 
 -- nothing has happened on it
-opened-stands : (number : ℕ) (peer local : Endpoint)
-    → Stands told_of_link (record { state = fresh number peer local 0; client = fresh_link room_for_replies; target = None })
-opened-stands number peer local = record {
+opened-stands : (pubs : List Config) (number : ℕ) (peer local : Endpoint)
+    → Stands told_of_link (socks [] pubs) (record { state = fresh number peer local 0; client = fresh_link room_for_replies; target = None })
+opened-stands pubs number peer local = record {
   plain = record {
     undone = refl;
     unclosed = refl;
@@ -160,17 +198,18 @@ opened-stands number peer local = record {
     sent_c = ([], refl);
     sent_t = ([], refl);
   };
+  direct = record { direct = refl; known = tt };
   client = record { given' = λ x h. cc; taken' = λ x h. cc; ended' = refl; shut' = refl };
   client_ends = λ arrival given a g e. absurd (cc);
   client_first = λ arrival given a g. let none : given ≡ [] = cc in (arrival.bytes, ap (λ z. z ++ arrival.bytes) none);
   target = (refl, refl, refl, refl);
 }
 
-opened-is : (number : ℕ) (peer local : Endpoint) → IsSlot number (opened_slot number peer local) nothing_yet
-opened-is number peer local = record {
+opened-is : (pubs : List Config) (number : ℕ) (peer local : Endpoint) → IsSlot pubs number (opened_slot number peer local) nothing_yet
+opened-is pubs number peer local = record {
   number' = refl;
   since = refl;
-  stands = opened-stands number peer local;
+  stands = opened-stands pubs number peer local;
   arrived = refl;
   ends = refl;
   unfailing = refl;
@@ -180,7 +219,7 @@ opened-is number peer local = record {
   quiet = record { t = refl; grams = refl; peer = refl; no_room = refl; faults = refl };
 }
 
-open-step : (w : World) (seen : Bool) (number : ℕ) (peer local : Endpoint) → w.seen ≡ seen_by_workers seen → (number == length w.records + 1) ≡ true
+open-step : (w : World) (seen : ℕ) (number : ℕ) (peer local : Endpoint) → w.seen ≡ seen_by_workers seen → (number == length w.records + 1) ≡ true
     → step w (Event.Open 1 number peer local 0) ≡ Some (record w { records = w.records ++ fresh number peer local 0 ∷ [] })
 open-step w seen number peer local saw test =
     ap (λ (z : List ℕ). when (nat_lt 1 (length z) && (number == length w.records + 1)) new) saw ∙ ap (λ z. when z new) test
@@ -188,36 +227,35 @@ open-step w seen number peer local saw test =
     new : World
     new = record w { records = w.records ++ fresh number peer local 0 ∷ [] }
 
-pub opens : (script lines : List ScriptLine) (state : State) (config : Option Config) (number : ℕ) (peer local : Endpoint) (old : Replay) (slots : List Slot) (out : List ℕ)
+pub opens : (script lines : List ScriptLine) (state : State) (number : ℕ) (peer local : Endpoint) (old : Replay) (slots : List Slot) (out : List ℕ)
     → slots ≡ old.slots ++ opened_slot number peer local ∷ [] → out ≡ old.out ++ open_shown number
-    → allows state (ScriptLine.Open 1 number peer local) ≡ true → IsBehind script lines state config old
-    → IsBehind script (lines ++ ScriptLine.Open 1 number peer local ∷ []) (after state (ScriptLine.Open 1 number peer local)) config (record old { slots = slots; out = out })
-opens script lines state config number peer local old slots out more written allowed b = record {
+    → allows state (ScriptLine.Open 1 number peer local) ≡ true → IsBehind script lines state old
+    → IsBehind script (lines ++ ScriptLine.Open 1 number peer local ∷ []) (after state (ScriptLine.Open 1 number peer local)) (record old { slots = slots; out = out })
+opens script lines state number peer local old slots out more written allowed b = record {
   s = s;
   w = w;
   played = subst (λ (z : List ℕ). Played script (lines ++ ScriptLine.Open 1 number peer local ∷ []) s w z)
       (ap (λ z. old.out ++ z) (open-line w number peer local) ∙ sym written)
       (plays-event script lines b.s b.w w old.out (ScriptLine.Open 1 number peer local) (Event.Open 1 number peer local 0) [] b.played refl
       (ap (λ n. Event.Open 1 number peer local n) (sym b.mirrors.now))
-      (open-step b.w old.seen number peer local b.mirrors.seen' (ap (λ n. number == n + 1) records-count ∙ allowed)) refl);
+      (open-step b.w old.gens.seen number peer local b.mirrors.seen' (ap (λ n. number == n + 1) records-count ∙ allowed)) refl);
   mirrors = record {
     now = b.mirrors.now;
     users = b.mirrors.users;
     pubs = b.mirrors.pubs;
     seen' = b.mirrors.seen';
+    below = b.mirrors.below;
     records = ap (λ z. z ++ fresh number peer local 0 ∷ []) b.mirrors.records
         ∙ (sym (map-append record_of old.slots (opened_slot number peer local ∷ [])) ∙ ap (map record_of) (sym more));
-    slots' = subst (λ (z : List Slot). AreSlots 1 z s.outsides) (sym more)
-        (slots-more 1 old.slots (b.s).outsides (opened_slot number peer local) nothing_yet b.mirrors.slots'
-        (subst (λ (n : ℕ). IsSlot n (opened_slot number peer local) nothing_yet) place (opened-is number peer local)));
+    slots' = subst (λ (z : List Slot). AreSlots old.gens.configs 1 z s.outsides) (sym more)
+        (slots-more old.gens.configs 1 old.slots (b.s).outsides (opened_slot number peer local) nothing_yet b.mirrors.slots'
+        (subst (λ (n : ℕ). IsSlot old.gens.configs n (opened_slot number peer local) nothing_yet) place (opened-is old.gens.configs number peer local)));
     desk = b.mirrors.desk;
     cap' = b.mirrors.cap';
     marks = b.mirrors.marks;
   };
   matches = record {
     published' = b.matches.published';
-    unpublished = b.matches.unpublished;
-    order = b.matches.order;
     seen' = b.matches.seen';
     sides = sides-more state.sides (b.s).outsides fresh_side nothing_yet b.matches.sides (refl, refl, refl);
     plain = b.matches.plain;
@@ -231,7 +269,7 @@ opens script lines state config number peer local old slots out more written all
     w = record b.w { records = (b.w).records ++ fresh number peer local 0 ∷ [] }
 
     slots-count : length old.slots ≡ length state.sides
-    slots-count = slots-length 1 old.slots (b.s).outsides b.mirrors.slots' ∙ sym (sides-length state.sides (b.s).outsides b.matches.sides)
+    slots-count = slots-length old.gens.configs 1 old.slots (b.s).outsides b.mirrors.slots' ∙ sym (sides-length state.sides (b.s).outsides b.matches.sides)
 
     records-count : length (b.w).records ≡ length state.sides
     records-count = ap length b.mirrors.records ∙ (length-map old.slots record_of ∙ slots-count)

@@ -1,8 +1,9 @@
 -- The closing rounds, turn after turn and round after round.
-use Rattle.std.proofs.Common.{ℕ, zero, suc, ◌≡◌, ◌≢◌, ◌<◌, ◌∙◌, sym, ap, subst, refl, Bool, true, false, ◌&&◌, if◌then◌else◌, Option, Some, None, List, [], ◌∷◌, ◌++◌, length, map, arith, append_assoc, append-nil}
+use Rattle.std.proofs.Common.{ℕ, zero, suc, ◌≡◌, ◌≢◌, ◌<◌, ◌∙◌, sym, ap, subst, refl, Bool, true, false, ◌&&◌, if◌then◌else◌, Option, Some, List, [], ◌∷◌, ◌++◌, length, map, arith, append_assoc, append-nil}
 use Rattle.std.specs.Prelude.{drop, slice_get}
 use Rattle.std.proofs.lemmas.List.{drop_all}
 use Rattle.conf_model.specs.declared.config.Config.{Config}
+use Rattle.generation.specs.Published.{Generations}
 use Rattle.net_ends.specs.InMemory.{LinkInMemory, NetInMemory}
 use Rattle.socks_machine.specs.declared.record.Record.{Record}
 use Rattle.socks_machine.specs.declared.script.ScriptLine.{ScriptLine}
@@ -10,8 +11,6 @@ use Rattle.socks_machine.specs.declared.world.Event.{Event}
 use Rattle.socks_machine.specs.declared.world.World.{World}
 use Rattle.socks_machine.specs.Follows.{IsReplay}
 use Rattle.socks_machine.specs.Script.{Surroundings, going, going_from, is_still, next_in_round}
-use Rattle.socks_machine.specs.Step.{step, seen_by}
-use Rattle.socks_machine.specs.Taking.{◌>>=◌}
 use Rattle.socks_machine.specs.Transcript.{event_line, ends}
 use Rattle.assoc_core.specs.declared.assoc.Assoc.{Assoc}
 use Rattle.assoc_core.specs.declared.assoc.Ended.{Ended}
@@ -20,9 +19,10 @@ use Rattle.replay_run.specs.declared.slot.Slot.{Slot}
 use Rattle.replay_run.specs.declared.state.Replay.{Replay}
 use Rattle.replay_run.specs.AtTurn.{IsTurned, TurnsAt}
 use Rattle.replay_run.specs.Behind.{IsBehind, IsInRound, IsPlayedOut, OnRound}
-use Rattle.replay_run.specs.Mirrors.{published, record_of, seen_by_workers}
+use Rattle.replay_run.specs.Mirrors.{HasSeen, record_of, seen_by_workers}
 use Rattle.replay_run.specs.Played.{InRounds}
 use Rattle.replay_run.specs.Shown.{close_shown, see_shown, turn_shown}
+use Rattle.replay_run.proofs.Happening.{see-step}
 use Rattle.replay_run.proofs.Playing.{close_line, ends-unpublished, round-goes-on, rounds-begin, rounds-end}
 use Rattle.replay_run.proofs.Slots.{get-map-at, slot-at}
 
@@ -88,9 +88,9 @@ still-true false = refl
 abbrev At : (script : List ScriptLine) (s : Surroundings) (w : World) (numbers : List ℕ × Bool) (lo out : List ℕ) → Type 0
 At script s w numbers lo out = InRounds script s w numbers.0 numbers.1 lo out
 
-behind-over : (script : List ScriptLine) (config : Config) (k : ℕ) (still quiet : Bool) (old new : Replay) (e : Ended LinkInMemory) → IsInRound script config k still old
-    → slice_get old.slots k ≡ Some (Slot.Over e) → (new ≡ old) × (quiet ≡ true) → IsInRound script config (suc k) (still && quiet) new
-behind-over script config k still quiet old new e h at turned = subst (λ (r : Replay). IsInRound script config (suc k) (still && quiet) r) (sym turned.0) (record {
+behind-over : (script : List ScriptLine) (k : ℕ) (still quiet : Bool) (old new : Replay) (e : Ended LinkInMemory) → IsInRound script k still old
+    → slice_get old.slots k ≡ Some (Slot.Over e) → (new ≡ old) × (quiet ≡ true) → IsInRound script (suc k) (still && quiet) new
+behind-over script k still quiet old new e h at turned = subst (λ (r : Replay). IsInRound script (suc k) (still && quiet) r) (sym turned.0) (record {
   s = h.s;
   w = h.w;
   lines_out = h.lines_out;
@@ -100,11 +100,10 @@ behind-over script config k still quiet old new e h at turned = subst (λ (r : R
   written = h.written;
   mirrors = h.mirrors;
   seen = h.seen;
-  plain = h.plain;
 })
   where
     is-over : (e.state).done ≡ true
-    is-over = (slot-at 1 old.slots (h.s).outsides k (Slot.Over e) (h.mirrors).slots' at).2.0
+    is-over = (slot-at (old.gens).configs 1 old.slots (h.s).outsides k (Slot.Over e) (h.mirrors).slots' at).2.0
 
     here : slice_get (h.w).records k ≡ Some e.state
     here = ap (λ (z : List Record). slice_get z k) (h.mirrors).records ∙ get-map-at record_of old.slots k (Slot.Over e) at
@@ -112,10 +111,10 @@ behind-over script config k still quiet old new e h at turned = subst (λ (r : R
     skips : coming h.w k ≡ coming h.w (suc k)
     skips = ap (going_from (suc k)) (drop-here (h.w).records k e.state here) ∙ going-skips (suc k) e.state (drop (suc k) (h.w).records) is-over
 
-behind-going : (script : List ScriptLine) (config : Config) (k : ℕ) (still quiet : Bool) (old new : Replay) (a : Assoc LinkInMemory) (net : NetInMemory)
-    → (h : IsInRound script config k still old) → slice_get old.slots k ≡ Some (Slot.Going a net) → IsTurned h.s h.w config k old new quiet
-    → IsInRound script config (suc k) (still && quiet) new
-behind-going script config k still quiet old new a net h at t = record {
+behind-going : (script : List ScriptLine) (k : ℕ) (still quiet : Bool) (old new : Replay) (a : Assoc LinkInMemory) (net : NetInMemory)
+    → (h : IsInRound script k still old) → slice_get old.slots k ≡ Some (Slot.Going a net) → IsTurned h.s h.w k old new quiet
+    → IsInRound script (suc k) (still && quiet) new
+behind-going script k still quiet old new a net h at t = record {
   s = h.s;
   w = t.world;
   lines_out = h.lines_out;
@@ -127,16 +126,15 @@ behind-going script config k still quiet old new a net h at t = record {
       (subst (λ (s : Surroundings). At script s t.world (next_in_round (coming h.w (suc k)) (still && is_still t.ev) (Some t.world)) h.lines_out (h.out ++ event_line t.world (Event.Turn t.ev)))
       t.used
       (round-goes-on script h.s h.w t.world (suc k) (coming h.w (suc k)) still h.lines_out h.out t.ev [] taken t.is_turn t.stepped t.over)));
-  written = t.out ∙ (ap (λ (z : List ℕ). z ++ turn_shown t.ev t.left) h.written
-      ∙ (append_assoc (h.lines_out ++ close_shown) h.out (turn_shown t.ev t.left)
+  written = t.out ∙ (ap (λ (z : List ℕ). z ++ turn_shown (old.gens).seen t.ev t.left) h.written
+      ∙ (append_assoc (h.lines_out ++ close_shown) h.out (turn_shown (old.gens).seen t.ev t.left)
       ∙ ap (λ (z : List ℕ). (h.lines_out ++ close_shown) ++ (h.out ++ z)) (sym t.line)));
   mirrors = t.mirrors;
-  seen = t.seen ∙ h.seen;
-  plain = h.plain;
+  seen = subst (λ (z : Generations). HasSeen z) (sym t.gens) h.seen;
 }
   where
     going-on : (a.state).done ≡ false
-    going-on = (((slot-at 1 old.slots (h.s).outsides k (Slot.Going a net) (h.mirrors).slots' at).2).stands).plain.undone
+    going-on = (((slot-at (old.gens).configs 1 old.slots (h.s).outsides k (Slot.Going a net) (h.mirrors).slots' at).2).stands).plain.undone
 
     here : slice_get (h.w).records k ≡ Some a.state
     here = ap (λ (z : List Record). slice_get z k) (h.mirrors).records ∙ get-map-at record_of old.slots k (Slot.Going a net) at
@@ -147,17 +145,17 @@ behind-going script config k still quiet old new a net h at t = record {
     taken : InRounds script h.s h.w (suc k ∷ coming h.w (suc k)) still h.lines_out h.out
     taken = subst (λ (ns : List ℕ). At script h.s h.w (next_in_round ns still (Some h.w)) h.lines_out h.out) takes h.rounds
 
-by-slot : (script : List ScriptLine) (config : Config) (k : ℕ) (still quiet : Bool) (old new : Replay) (slot : Slot) → IsInRound script config k still old
-    → slice_get old.slots k ≡ Some slot → TurnsAt config k old new quiet (Some slot) → IsInRound script config (suc k) (still && quiet) new
-by-slot script config k still quiet old new (Slot.Going a net) h at t = behind-going script config k still quiet old new a net h at (t h.s h.w h.mirrors h.seen h.plain)
-by-slot script config k still quiet old new (Slot.Over e) h at t = behind-over script config k still quiet old new e h at t
-by-slot script config k still quiet old new Slot.Away h at t = absurd ((slot-at 1 old.slots (h.s).outsides k Slot.Away (h.mirrors).slots' at).2)
+by-slot : (script : List ScriptLine) (k : ℕ) (still quiet : Bool) (old new : Replay) (slot : Slot) → IsInRound script k still old
+    → slice_get old.slots k ≡ Some slot → TurnsAt k old new quiet (Some slot) → IsInRound script (suc k) (still && quiet) new
+by-slot script k still quiet old new (Slot.Going a net) h at t = behind-going script k still quiet old new a net h at (t h.s h.w h.mirrors)
+by-slot script k still quiet old new (Slot.Over e) h at t = behind-over script k still quiet old new e h at t
+by-slot script k still quiet old new Slot.Away h at t = absurd ((slot-at (old.gens).configs 1 old.slots (h.s).outsides k Slot.Away (h.mirrors).slots' at).2)
 
-pub turn-of-round : (script : List ScriptLine) (config : Config) (k : ℕ) (still quiet : Bool) (old new : Replay) → k < length old.slots
-    → TurnsAt config k old new quiet (slice_get old.slots k) → IsInRound script config k still old → IsInRound script config (suc k) (still && quiet) new
-turn-of-round script config k still quiet old new within t h =
+pub turn-of-round : (script : List ScriptLine) (k : ℕ) (still quiet : Bool) (old new : Replay) → k < length old.slots
+    → TurnsAt k old new quiet (slice_get old.slots k) → IsInRound script k still old → IsInRound script (suc k) (still && quiet) new
+turn-of-round script k still quiet old new within t h =
     let x = item-at old.slots k within in
-    by-slot script config k still quiet old new x.0 h x.1 (subst (λ (z : Option Slot). TurnsAt config k old new quiet z) x.1 t)
+    by-slot script k still quiet old new x.0 h x.1 (subst (λ (z : Option Slot). TurnsAt k old new quiet z) x.1 t)
 
 -- ---- a whole round
 
@@ -172,17 +170,16 @@ closes-as : (lo out more : List ℕ) → ((lo ++ close_shown) ++ out) ++ more �
 unfolding close_shown
 closes-as lo out more = append_assoc (lo ++ close_line) out more
 
-pub whole-round : (script : List ScriptLine) (config : Config) (still : Bool) (r : Replay) → IsInRound script config (length r.slots) still r → OnRound script config still r
-whole-round script config true r h = record {
+pub whole-round : (script : List ScriptLine) (still : Bool) (r : Replay) → IsInRound script (length r.slots) still r → OnRound script still r
+whole-round script true r h = record {
   s = h.s;
   w = h.w;
-  config = Some config;
   done = subst (λ (out : List ℕ). IsReplay script h.w out) (sym (ap (λ (z : List ℕ). z ++ ends h.w) h.written ∙ closes-as h.lines_out h.out (ends h.w)))
       (rounds-end script h.s h.w true h.lines_out h.out
       (subst (λ (ns : List ℕ). At script h.s h.w (next_in_round ns true (Some h.w)) h.lines_out h.out) (none-comes h.w r.slots (h.mirrors).records) h.rounds));
   mirrors = h.mirrors;
 }
-whole-round script config false r h = record {
+whole-round script false r h = record {
   s = h.s;
   w = h.w;
   lines_out = h.lines_out;
@@ -192,68 +189,59 @@ whole-round script config false r h = record {
   written = h.written;
   mirrors = h.mirrors;
   seen = h.seen;
-  plain = h.plain;
 }
 
 -- ---- the close
 
--- worker 1 sees the one configuration
-pub sees : (w : World) (config : Config) (seen : Bool) → w.pubs ≡ published (Some config) → w.seen ≡ seen_by_workers seen
-    → step w (Event.See 1 (length w.pubs)) ≡ Some (record w { seen = seen_by_workers true })
-sees w config seen pubs h =
-    ap (λ (ks : List Config). slice_get w.seen 1 >>= seen_by (record w { pubs = ks }) 1 (length ks)) pubs
-    ∙ (ap (λ (ns : List ℕ). slice_get ns 1 >>= seen_by (record w { pubs = published (Some config); seen = ns }) 1 1) h
-    ∙ (by-seen seen ∙ ap (λ (ks : List Config). let x : Option World = Some (record w { pubs = ks; seen = seen_by_workers true }) in x) (sym pubs)))
-  where
-    by-seen : (b : Bool) → (slice_get (seen_by_workers b) 1 >>= seen_by (record w { pubs = published (Some config); seen = seen_by_workers b }) 1 1)
-        ≡ Some (record w { pubs = published (Some config); seen = seen_by_workers true })
-    by-seen true = refl
-    by-seen false = refl
-
-see-as : (w : World) (n : ℕ) → n ≡ 1 → event_line w (Event.See 1 n) ≡ see_shown
+see-as : (w : World) (n m : ℕ) → n ≡ m → event_line w (Event.See 1 n) ≡ see_shown m
 unfolding see_shown
-see-as w n h = ap (λ (m : ℕ). event_line w (Event.See 1 m)) h
+see-as w n m h = ap (λ (m : ℕ). event_line w (Event.See 1 m)) h
 
-one-published : (w : World) (config : Config) → w.pubs ≡ published (Some config) → w.pubs ≢ []
-one-published w config h = λ e. cc (sym h ∙ e)
+some-published : (pubs configs : List Config) → pubs ≡ configs → 0 < length configs → pubs ≢ []
+some-published pubs configs h some = λ e. let n = ap length (sym h ∙ e) in absurd (omega (arith, n, some))
 
-pub closes-unpublished : (script : List ScriptLine) (state : State) (old : Replay) (out : List ℕ) → out ≡ old.out ++ close_shown → IsBehind script script state None old
-    → IsPlayedOut script (record { desk = old.desk; seen = old.seen; slots = old.slots; out = out })
-closes-unpublished script state old out h b = record {
+none-published : (configs : List Config) → length configs ≡ 0 → configs ≡ []
+none-published [] h = refl
+none-published (k ∷ ks) h = cc
+
+pub closes-unpublished : (script : List ScriptLine) (state : State) (old : Replay) (out : List ℕ) → out ≡ old.out ++ close_shown → length (old.gens).configs ≡ 0
+    → IsBehind script script state old → IsPlayedOut script (record { desk = old.desk; gens = old.gens; slots = old.slots; out = out })
+closes-unpublished script state old out h none b = record {
   s = b.s;
   w = b.w;
-  config = None;
   done = subst (λ (z : List ℕ). IsReplay script b.w z) (sym (ap (λ (z : List ℕ). z ++ ends b.w) (h ∙ sym (append-nil (old.out ++ close_shown))) ∙ closes-as old.out [] (ends b.w)))
-      (ends-unpublished script b.s b.w old.out b.played (b.mirrors).pubs);
+      (ends-unpublished script b.s b.w old.out b.played ((b.mirrors).pubs ∙ none-published (old.gens).configs none));
   mirrors = b.mirrors;
 }
 
-pub closes-published : (script : List ScriptLine) (state : State) (config : Config) (old : Replay) (between out : List ℕ) → between ≡ old.out ++ close_shown → out ≡ between ++ see_shown
-    → IsBehind script script state (Some config) old
-    → IsInRound script config 0 true (record { desk = old.desk; seen = true; slots = old.slots; out = out })
-closes-published script state config old between out h k b = record {
-  s = b.s;
-  w = new;
-  lines_out = old.out;
-  out = see_shown;
-  rounds = subst (λ (z : List ℕ × Bool). At script b.s new z old.out see_shown) (sym (round-begins (going new) new))
-      (subst (λ (z : List ℕ). InRounds script b.s new (going new) true old.out z) (see-as new (length (b.w).pubs) (ap (λ (ks : List Config). length ks) (b.mirrors).pubs))
-      (rounds-begin script b.s b.w new old.out b.played (one-published b.w config (b.mirrors).pubs) (sees b.w config old.seen (b.mirrors).pubs (b.mirrors).seen')));
-  written = k ∙ ap (λ (z : List ℕ). z ++ see_shown) h;
-  mirrors = record {
-    now = (b.mirrors).now;
-    users = (b.mirrors).users;
-    pubs = (b.mirrors).pubs;
-    seen' = refl;
-    records = (b.mirrors).records;
-    slots' = (b.mirrors).slots';
-    desk = (b.mirrors).desk;
-    cap' = (b.mirrors).cap';
-    marks = (b.mirrors).marks;
-  };
-  seen = refl;
-  plain = (b.matches).plain.0;
-}
+pub closes-published : (script : List ScriptLine) (state : State) (old : Replay) (gens : Generations) (between out : List ℕ) → between ≡ old.out ++ close_shown
+    → gens ≡ record old.gens { seen = length (old.gens).configs } → out ≡ between ++ see_shown (length (old.gens).configs) → 0 < length (old.gens).configs
+    → IsBehind script script state old → IsInRound script 0 true (record { desk = old.desk; gens = gens; slots = old.slots; out = out })
+closes-published script state old gens between out h is k some b =
+    subst (λ (z : Generations). IsInRound script 0 true (record { desk = old.desk; gens = z; slots = old.slots; out = out })) (sym is) (record {
+      s = b.s;
+      w = new;
+      lines_out = old.out;
+      out = see_shown (length (old.gens).configs);
+      rounds = subst (λ (z : List ℕ × Bool). At script b.s new z old.out (see_shown (length (old.gens).configs))) (sym (round-begins (going new) new))
+          (subst (λ (z : List ℕ). InRounds script b.s new (going new) true old.out z) (see-as new (length (b.w).pubs) (length (old.gens).configs) (ap (λ (ks : List Config). length ks) (b.mirrors).pubs))
+          (rounds-begin script b.s b.w new old.out b.played (some-published (b.w).pubs (old.gens).configs (b.mirrors).pubs some)
+          (see-step b.w old.gens (b.mirrors).pubs (b.mirrors).seen' (b.mirrors).below some)));
+      written = k ∙ ap (λ (z : List ℕ). z ++ see_shown (length (old.gens).configs)) h;
+      mirrors = record {
+        now = (b.mirrors).now;
+        users = (b.mirrors).users;
+        pubs = (b.mirrors).pubs;
+        seen' = refl;
+        below = omega arith;
+        records = (b.mirrors).records;
+        slots' = (b.mirrors).slots';
+        desk = (b.mirrors).desk;
+        cap' = (b.mirrors).cap';
+        marks = (b.mirrors).marks;
+      };
+      seen = record { seen = some; plain = (b.matches).plain };
+    })
   where
     new : World
-    new = record b.w { seen = seen_by_workers true }
+    new = record b.w { seen = seen_by_workers (length (old.gens).configs) }

@@ -2,6 +2,10 @@
 use Rattle.std.proofs.Common.{ℕ, zero, suc, ◌≡◌, ◌≤◌, ◌+◌, ◌∙◌, sym, ap, subst, refl, Bool, true, false, Option, Some, None, is_some, List, [], ◌∷◌, map, arith, slice_set}
 use Rattle.std.specs.Prelude.{slice_get, unwrap_or}
 use Rattle.conf_model.specs.declared.config.Config.{Config}
+use Rattle.conf_model.specs.declared.user.User.{User}
+use Rattle.generation.specs.Published.{Generations}
+use Rattle.socks_machine.specs.Basis.{Basis}
+use Rattle.socks_machine.specs.Socks.{socks}
 use Rattle.net_ends.specs.InMemory.{LinkInMemory, NetInMemory, told_of_link, told_of_net}
 use Rattle.rule_list.specs.Rules.{numbered}
 use Rattle.socks_machine.specs.declared.cause.StopBy.{StopBy}
@@ -26,9 +30,9 @@ use Rattle.socks_machine.specs.declared.world.Outer.{Outer}
 use Rattle.socks_machine.specs.Calls.{Context}
 use Rattle.socks_machine.specs.Decisions.{reached_at}
 use Rattle.assoc_core.specs.Plain.{IsPlainRecord}
-use Rattle.assoc_core.specs.Stands.{Holds, HoldsTarget}
+use Rattle.assoc_core.specs.Stands.{GoesDirect, Holds, HoldsTarget}
 use Rattle.assoc_core.specs.Turns.{PlanStays, SameTarget, outer_of}
-use Rattle.replay_run.specs.Mirrors.{Mirrors, AreSlots, IsGoing, IsSlot, TargetIs, TargetMirrors, record_of, published, seen_by_workers}
+use Rattle.replay_run.specs.Mirrors.{Mirrors, AreSlots, IsGoing, IsSlot, TargetIs, TargetMirrors, record_of, seen_by_workers}
 use Rattle.replay_run.specs.Taken.{slot_of}
 use Rattle.replay_run.proofs.Outsides.{same-arrived, same-ends, same-cap, same-target-is, target-behind}
 use Rattle.socks_machine.specs.Follows.{IsTurnOf, used_up}
@@ -37,14 +41,14 @@ use Rattle.replay_run.proofs.Allowing.{allows}
 use Rattle.replay_run.proofs.Slots.{map-set-at, get-map-at, get-set-at, slot-at, slots-set, set-same, nothing-used}
 
 -- a turn is made in the generation that was seen, on the record of its number
-turn-steps : (w : World) (config : Config) (a : Assoc LinkInMemory) (slots : List Slot) (net net' : NetInMemory) (next : Next LinkInMemory) (stands' : List Line → List StopBy → Type 0) (k : ℕ)
-    → w.pubs ≡ published (Some config) → w.seen ≡ seen_by_workers true → w.records ≡ map record_of slots → slice_get slots k ≡ Some (Slot.Going a net) → a.state.number ≡ suc k
-    → (t : Turns told_of_link (λ (l : LinkInMemory). l.counts) stands' (context w.users w.pubs 1 config w.cap w.h w.marks) 0 (told_of_net net) (told_of_net net') a next)
+turn-steps : (w : World) (gens : Generations) (config : Config) (a : Assoc LinkInMemory) (slots : List Slot) (net net' : NetInMemory) (next : Next LinkInMemory) (stands' : List Line → List StopBy → Type 0) (k : ℕ)
+    → numbered w.pubs gens.seen ≡ Some config → w.seen ≡ seen_by_workers gens.seen → w.records ≡ map record_of slots → slice_get slots k ≡ Some (Slot.Going a net) → a.state.number ≡ suc k
+    → (t : Turns told_of_link (λ (l : LinkInMemory). l.counts) stands' (context w.users w.pubs gens.seen config w.cap w.h w.marks) 0 (told_of_net net) (told_of_net net') a next)
     → step w (Event.Turn (event_of 1 a.state.number 0 t.acts (mark_of next))) ≡ Some (made w a.state.number t.result)
-turn-steps w config a slots net net' next stands' k pubs seen records at number t =
+turn-steps w gens config a slots net net' next stands' k pubs seen records at number t =
     ap (λ (x : Option ℕ). x >>= λ g. numbered w.pubs g >>= λ c. numbered w.records a.state.number >>= λ r. turn (context_of w g c) ev r >>= λ m. Some (made w a.state.number m)) (ap (λ (z : List ℕ). slice_get z 1) seen)
-    ∙ (ap (λ (x : Option Config). x >>= λ c. numbered w.records a.state.number >>= λ r. turn (context_of w 1 c) ev r >>= λ m. Some (made w a.state.number m)) (ap (λ (z : List Config). numbered z 1) pubs)
-    ∙ (ap (λ (x : Option Record). x >>= λ r. turn (context_of w 1 config) ev r >>= λ m. Some (made w a.state.number m)) found
+    ∙ (ap (λ (x : Option Config). x >>= λ c. numbered w.records a.state.number >>= λ r. turn (context_of w gens.seen c) ev r >>= λ m. Some (made w a.state.number m)) pubs
+    ∙ (ap (λ (x : Option Record). x >>= λ r. turn (context_of w gens.seen config) ev r >>= λ m. Some (made w a.state.number m)) found
     ∙ ap (λ (x : Option TurnResult). x >>= λ m. Some (made w a.state.number m)) (t.lawful 1)))
   where
     ev : TurnEvent
@@ -93,14 +97,15 @@ target-still (Some l) None net net' o r outer h same holds plan = absurd same
 target-still t (Some l') net net' o r outer h same holds plan = target-behind t net o l' h same
 
 -- an association that goes on
-still-going : (n : ℕ) (a a' : Assoc LinkInMemory) (net net' : NetInMemory) (o : Outside) (next : Next LinkInMemory) (s : Context) (stands' : List Line → List StopBy → Type 0)
-    → IsGoing n a net o → (t : Turns told_of_link (λ (l : LinkInMemory). l.counts) stands' s 0 (told_of_net net) (told_of_net net') a next) → left_of next ≡ a' → IsPlainRecord a'.state
-    → IsGoing n a' net' o
-still-going n a a' net net' o next s stands' h t is plain = subst (λ (z : Assoc LinkInMemory). IsGoing n z net' o) is (record {
+still-going : (pubs : List Config) (n : ℕ) (a a' : Assoc LinkInMemory) (net net' : NetInMemory) (o : Outside) (next : Next LinkInMemory) (s : Context) (stands' : List Line → List StopBy → Type 0)
+    → IsGoing pubs n a net o → s.basis ≡ socks [] pubs → (t : Turns told_of_link (λ (l : LinkInMemory). l.counts) stands' s 0 (told_of_net net) (told_of_net net') a next) → left_of next ≡ a' → IsPlainRecord a'.state
+    → IsGoing pubs n a' net' o
+still-going pubs n a a' net net' o next s stands' h over t is plain = subst (λ (z : Assoc LinkInMemory). IsGoing pubs n z net' o) is (record {
   number' = ap (λ (r : Record). r.number) t.state' ∙ (t.number ∙ h.number');
   since = ap (λ (r : Record). r.since) t.state' ∙ (t.since ∙ h.since);
   stands = record {
     plain = subst (λ (z : Assoc LinkInMemory). IsPlainRecord z.state) (sym is) plain;
+    direct = subst (λ (z : Basis). GoesDirect z ((left_of next).state).decisions) over (subst (λ (r : Record). GoesDirect s.basis r.decisions) (sym t.state') t.direct);
     client = subst (λ (r : Record). Holds (told_of_link (left_of next).client) r.c r.sent_c r.end_c r.shut_c) (sym t.state') t.client;
     client_ends = t.client_ends;
     client_first = t.client_first;
@@ -115,23 +120,23 @@ still-going n a a' net net' o next s stands' h t is plain = subst (λ (z : Assoc
   quiet = h.quiet;
 })
 
-slot-still : (n : ℕ) (a : Assoc LinkInMemory) (net net' : NetInMemory) (o : Outside) (next : Next LinkInMemory) (s : Context) (stands' : List Line → List StopBy → Type 0)
-    → IsGoing n a net o → (t : Turns told_of_link (λ (l : LinkInMemory). l.counts) stands' s 0 (told_of_net net) (told_of_net net') a next) → IsSlot n (slot_of next net') o
-slot-still n a net net' o (Next.Wait a') s stands' h t = still-going n a a' net net' o (Next.Wait a') s stands' h t refl t.goes_on
-slot-still n a net net' o (Next.Again a') s stands' h t = still-going n a a' net net' o (Next.Again a') s stands' h t refl t.goes_on
-slot-still n a net net' o (Next.Done e) s stands' h t = t.goes_on
+slot-still : (pubs : List Config) (n : ℕ) (a : Assoc LinkInMemory) (net net' : NetInMemory) (o : Outside) (next : Next LinkInMemory) (s : Context) (stands' : List Line → List StopBy → Type 0)
+    → IsGoing pubs n a net o → s.basis ≡ socks [] pubs → (t : Turns told_of_link (λ (l : LinkInMemory). l.counts) stands' s 0 (told_of_net net) (told_of_net net') a next) → IsSlot pubs n (slot_of next net') o
+slot-still pubs n a net net' o (Next.Wait a') s stands' h over t = still-going pubs n a a' net net' o (Next.Wait a') s stands' h over t refl t.goes_on
+slot-still pubs n a net net' o (Next.Again a') s stands' h over t = still-going pubs n a a' net net' o (Next.Again a') s stands' h over t refl t.goes_on
+slot-still pubs n a net net' o (Next.Done e) s stands' h over t = t.goes_on
 
 -- ---- the whole
 
 -- the turn of the association at this place: its event, the world behind it, and that the replay holds what that is
-pub record IsTurned (s : Surroundings) (w : World) (config : Config) (slots : List Slot) (k : ℕ) (ev : TurnEvent) (slot : Slot) (left : Record)
+pub record IsTurned (s : Surroundings) (w : World) (gens : Generations) (slots : List Slot) (k : ℕ) (ev : TurnEvent) (slot : Slot) (left : Record)
     (stands' : List Line → List StopBy → Type 0) (cap : ℕ) : Type 0 where
   pub new : World
   pub is_turn : IsTurnOf s w 1 (suc k) ev []
   pub stepped : step w (Event.Turn ev) ≡ Some new
   pub used : used_up s ev [] ≡ s
-  pub mirrors : Mirrors stands' cap s new (Some config) true (slice_set slots k slot)
-  pub line' : event_line new (Event.Turn ev) ≡ turn_line 1 ev (Some left)
+  pub mirrors : Mirrors stands' cap s new gens (slice_set slots k slot)
+  pub line' : event_line new (Event.Turn ev) ≡ turn_line gens.seen ev (Some left)
   pub others : (j : ℕ) → (j ≡ k → ⊥) → slice_get new.records j ≡ slice_get w.records j
 
 other-places : {A : Type 0} (xs : List A) (k j : ℕ) (x : A) → (j ≡ k → ⊥) → slice_get (slice_set xs k x) j ≡ slice_get xs j
@@ -141,18 +146,18 @@ other-places (y ∷ ys) zero (suc j) x h = refl
 other-places (y ∷ ys) (suc k) zero x h = refl
 other-places (y ∷ ys) (suc k) (suc j) x h = other-places ys k j x (λ e. h (ap (λ (n : ℕ). suc n) e))
 
-pub turned : (s : Surroundings) (w : World) (config : Config) (slots : List Slot) (k : ℕ) (a : Assoc LinkInMemory) (net net' : NetInMemory) (next : Next LinkInMemory)
+pub turned : (s : Surroundings) (w : World) (gens : Generations) (config : Config) (slots : List Slot) (k : ℕ) (a : Assoc LinkInMemory) (net net' : NetInMemory) (next : Next LinkInMemory)
     (stands stands' : List Line → List StopBy → Type 0) (cap : ℕ)
-    → Mirrors stands cap s w (Some config) true slots → slice_get slots k ≡ Some (Slot.Going a net)
-    → (t : Turns told_of_link (λ (l : LinkInMemory). l.counts) stands' (context w.users w.pubs 1 config w.cap w.h w.marks) 0 (told_of_net net) (told_of_net net') a next)
+    → Mirrors stands cap s w gens slots → numbered gens.configs gens.seen ≡ Some config → slice_get slots k ≡ Some (Slot.Going a net)
+    → (t : Turns told_of_link (λ (l : LinkInMemory). l.counts) stands' (context w.users w.pubs gens.seen config w.cap w.h w.marks) 0 (told_of_net net) (told_of_net net') a next)
     → last_mark (t.result).marks ≡ None
-    → IsTurned s w config slots k (event_of 1 a.state.number 0 t.acts (mark_of next)) (slot_of next net') (t.result).left stands' cap
-turned s w config slots k a net net' next stands stands' cap m at t mark = record {
+    → IsTurned s w gens slots k (event_of 1 a.state.number 0 t.acts (mark_of next)) (slot_of next net') (t.result).left stands' cap
+turned s w gens config slots k a net net' next stands stands' cap m is at t mark = record {
   new = new;
   is_turn = record {
     worker' = refl;
     number = number;
-    generation = 1;
+    generation = gens.seen;
     saw = saw;
     config = config;
     published = shown;
@@ -164,7 +169,9 @@ turned s w config slots k a net net' next stands stands' cap m at t mark = recor
       s = s;
       w = w;
       new = new;
+      generation = gens.seen;
       config = config;
+      pubs = gens.configs;
       n = suc k;
       a = a;
       net = net;
@@ -187,12 +194,13 @@ turned s w config slots k a net net' next stands stands' cap m at t mark = recor
     users = m.users;
     pubs = m.pubs;
     seen' = m.seen';
+    below = m.below;
     records = ap (λ n. set_numbered w.records n (t.result).left) number
         ∙ (ap (λ (rs : List Record). slice_set rs k (t.result).left) m.records
         ∙ (ap (λ (r : Record). slice_set (map record_of slots) k r) (sym (slot-record next net' ∙ t.state'))
         ∙ sym (map-set-at record_of slots k (slot_of next net'))));
-    slots' = subst (λ (os : List Outside). AreSlots 1 (slice_set slots k (slot_of next net')) os) (set-same s.outsides k o found.1)
-        (slots-set 1 slots s.outsides k (slot_of next net') o m.slots' (slot-still (1 + k) a net net' o next _ stands' found.2 t));
+    slots' = subst (λ (os : List Outside). AreSlots gens.configs 1 (slice_set slots k (slot_of next net')) os) (set-same s.outsides k o found.1)
+        (slots-set gens.configs 1 slots s.outsides k (slot_of next net') o m.slots' (slot-still gens.configs (1 + k) a net net' o next _ stands' found.2 over t));
     desk = t.desk;
     cap' = m.cap';
     marks = mark;
@@ -208,23 +216,26 @@ turned s w config slots k a net net' next stands stands' cap m at t mark = recor
     new : World
     new = made w a.state.number t.result
 
-    found : (o : Outside) × (slice_get s.outsides k ≡ Some o) × IsSlot (1 + k) (Slot.Going a net) o
-    found = slot-at 1 slots s.outsides k (Slot.Going a net) m.slots' at
+    found : (o : Outside) × (slice_get s.outsides k ≡ Some o) × IsSlot gens.configs (1 + k) (Slot.Going a net) o
+    found = slot-at gens.configs 1 slots s.outsides k (Slot.Going a net) m.slots' at
 
     o : Outside
     o = found.0
 
-    going : IsGoing (suc k) a net o
-    going = subst (λ (n : ℕ). IsGoing n a net o) (omega arith) found.2
+    going : IsGoing gens.configs (suc k) a net o
+    going = subst (λ (n : ℕ). IsGoing gens.configs n a net o) (omega arith) found.2
 
     number : a.state.number ≡ suc k
     number = going.number'
 
-    saw : slice_get w.seen 1 ≡ Some 1
+    over : socks w.users w.pubs ≡ socks [] gens.configs
+    over = ap (λ (us : List User). socks us w.pubs) m.users ∙ ap (λ (ks : List Config). socks [] ks) m.pubs
+
+    saw : slice_get w.seen 1 ≡ Some gens.seen
     saw = ap (λ (z : List ℕ). slice_get z 1) m.seen'
 
-    shown : numbered w.pubs 1 ≡ Some config
-    shown = ap (λ (z : List Config). numbered z 1) m.pubs
+    shown : numbered w.pubs gens.seen ≡ Some config
+    shown = ap (λ (z : List Config). numbered z gens.seen) m.pubs ∙ is
 
     stood' : slice_get w.records k ≡ Some a.state
     stood' = ap (λ (z : List Record). slice_get z k) m.records ∙ get-map-at record_of slots k (Slot.Going a net) at
@@ -233,7 +244,7 @@ turned s w config slots k a net net' next stands stands' cap m at t mark = recor
     stood = stood'
 
     stepped : step w (Event.Turn ev) ≡ Some new
-    stepped = turn-steps w config a slots net net' next stands' k m.pubs m.seen' m.records at number t
+    stepped = turn-steps w gens config a slots net net' next stands' k shown m.seen' m.records at number t
 
     behind : numbered new.records a.state.number ≡ Some (t.result).left
     behind = numbered-set w k t.result a.state a.state.number number stood'

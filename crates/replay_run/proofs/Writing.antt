@@ -49,14 +49,14 @@ still-as ev grams sent_u =
     ∙ (ap (λ b. mark_eq ev.next NextMark.Wait && (((b && not (some_in ev.t)) && (ev.sent_c == 0)) && (ev.sent_t == 0))) (nothing-taken ev.c)
     ∙ ap (λ b. mark_eq ev.next NextMark.Wait && ((((length ev.c == 0) && b) && (ev.sent_c == 0)) && (ev.sent_t == 0))) (nothing-taken ev.t))))
 
-pub writes : (before made all : Totals) (next : Next LinkInMemory) (left : Record) (old new : List ℕ) (mark : NextMark) (still : Bool)
+pub writes : (generation : ℕ) (before made all : Totals) (next : Next LinkInMemory) (left : Record) (old new : List ℕ) (mark : NextMark) (still : Bool)
     → left ≡ left_record next → all ≡ totals_of left → Since made all before → mark ≡ mark_of_next next
     → still ≡ (mark_eq mark NextMark.Wait && ((((made.took_c == 0) && (made.took_t == 0)) && (made.sent_c == 0)) && (made.sent_t == 0)))
     → ((ev : TurnEvent) → ev.worker ≡ 1 → ev.number ≡ left.number → length ev.c ≡ made.took_c → length ev.t ≡ made.took_t
-    → ev.sent_c ≡ made.sent_c → ev.sent_t ≡ made.sent_t → ev.next ≡ mark → is_udp left ≡ false → new ≡ old ++ turn_shown ev left)
-    → WritesTurn before next old new still
-writes before made all next left old new mark still is totals since marked stills shown = record {
-  written = λ ev w n x udp c t sc st. subst (λ (r : Record). new ≡ old ++ turn_shown ev r) is
+    → ev.sent_c ≡ made.sent_c → ev.sent_t ≡ made.sent_t → ev.next ≡ mark → is_udp left ≡ false → new ≡ old ++ turn_shown generation ev left)
+    → WritesTurn generation before next old new still
+writes generation before made all next left old new mark still is totals since marked stills shown = record {
+  written = λ ev w n x udp c t sc st. subst (λ (r : Record). new ≡ old ++ turn_shown generation ev r) is
       (shown ev w (n ∙ sym (ap (λ (r : Record). r.number) is)) (took_c ev c) (took_t ev t) (put_c ev sc) (put_t ev st) (x ∙ sym marked)
       (ap is_udp is ∙ udp));
   still' = λ ev x grams sent_u c t sc st. stills

@@ -1,8 +1,5 @@
 -- What a replay holds between two lines of its script, and behind the last.
-use Rattle.std.specs.Prelude.{ℕ, suc, ◌≡◌, Bool, true, false, Option, Some, None, List, [], ◌∷◌, ◌++◌, drop}
-use denote.Ref.{Bor}
-use Rattle.conf_model.specs.declared.config.Config.{Config}
-use Rattle.conf_model.specs.Plain.{IsPlain}
+use Rattle.std.specs.Prelude.{ℕ, suc, ◌≡◌, Bool, true, false, Some, List, [], ◌∷◌, ◌++◌, drop}
 use Rattle.session_desk.specs.Standings.{StandsFor}
 use Rattle.socks_machine.specs.declared.script.ScriptLine.{ScriptLine}
 use Rattle.socks_machine.specs.declared.world.World.{World}
@@ -10,45 +7,36 @@ use Rattle.socks_machine.specs.Follows.{IsReplay}
 use Rattle.socks_machine.specs.Script.{Surroundings, going_from, next_in_round}
 use Rattle.socks_machine.specs.Transcript.{ends}
 use Rattle.replay_run.specs.declared.state.Replay.{Replay}
-use Rattle.replay_run.specs.Mirrors.{Mirrors, Matches}
+use Rattle.replay_run.specs.Mirrors.{HasSeen, Mirrors, Matches}
 use Rattle.replay_run.specs.Played.{Played, InRounds}
 use Rattle.replay_run.specs.Shown.{close_shown}
 use Rattle.replay_script.specs.declared.state.State.{State}
 use Rattle.replay_script.specs.Conditions.{IsServedForm, allows, after}
 
--- the configuration that is lent
-abbrev pub config_of : Option (Bor Config) → Option Config
-config_of None = None
-config_of (Some k) = Some k.now
-
 -- these lines were played, the reader's state behind them is this one, and the replay holds what came of them
-pub record IsBehind (script lines : List ScriptLine) (state : State) (config : Option Config) (r : Replay) : Type 0 where
+pub record IsBehind (script lines : List ScriptLine) (state : State) (r : Replay) : Type 0 where
   pub s : Surroundings
   pub w : World
   pub played : Played script lines s w r.out
-  pub mirrors : Mirrors (StandsFor r.desk) r.desk.cap s w config r.seen r.slots
-  pub matches : Matches state s config r.seen
+  pub mirrors : Mirrors (StandsFor r.desk) r.desk.cap s w r.gens r.slots
+  pub matches : Matches state s r.gens
 
 -- a line that is served there
-pub record IsDue (l : ScriptLine) (config : Option Config) (r : Replay) : Type 0 where
+pub record IsDue (l : ScriptLine) (r : Replay) : Type 0 where
   pub script : List ScriptLine
   pub lines : List ScriptLine
   pub state : State
   pub form : IsServedForm l
   pub allowed : allows state l ≡ true
-  pub behind : IsBehind script lines state config r
+  pub behind : IsBehind script lines state r
 
 -- whatever lines the replay was behind, it is behind this one more
-abbrev pub GoesBehind : ScriptLine → Option Config → Option Config → Replay → Replay → Type 0
-GoesBehind l config config' old new = (script lines : List ScriptLine) (state : State) → IsServedForm l → allows state l ≡ true
-    → IsBehind script lines state config old → IsBehind script (lines ++ l ∷ []) (after state l) config' new
-
--- the same, of a line that publishes nothing
-abbrev pub Goes : ScriptLine → Replay → Replay → Type 0
-Goes l old new = (config : Option Config) → GoesBehind l config config old new
+abbrev pub GoesBehind : ScriptLine → Replay → Replay → Type 0
+GoesBehind l old new = (script lines : List ScriptLine) (state : State) → IsServedForm l → allows state l ≡ true
+    → IsBehind script lines state old → IsBehind script (lines ++ l ∷ []) (after state l) new
 
 -- in the closing rounds: the associations from this place on are still to come in this round, and whether it was still so far
-pub record IsInRound (script : List ScriptLine) (config : Config) (at : ℕ) (still : Bool) (r : Replay) : Type 0 where
+pub record IsInRound (script : List ScriptLine) (at : ℕ) (still : Bool) (r : Replay) : Type 0 where
   pub s : Surroundings
   pub w : World
   pub lines_out : List ℕ
@@ -56,19 +44,17 @@ pub record IsInRound (script : List ScriptLine) (config : Config) (at : ℕ) (st
   pub rounds : InRounds script s w (next_in_round (going_from (suc at) (drop at w.records)) still (Some w)).0
       (next_in_round (going_from (suc at) (drop at w.records)) still (Some w)).1 lines_out out
   pub written : r.out ≡ (lines_out ++ close_shown) ++ out
-  pub mirrors : Mirrors (StandsFor r.desk) r.desk.cap s w (Some config) r.seen r.slots
-  pub seen : r.seen ≡ true
-  pub plain : IsPlain config
+  pub mirrors : Mirrors (StandsFor r.desk) r.desk.cap s w r.gens r.slots
+  pub seen : HasSeen r.gens
 
 -- all was played, and what became of each association is still to be written
 pub record IsPlayedOut (script : List ScriptLine) (r : Replay) : Type 0 where
   pub s : Surroundings
   pub w : World
-  pub config : Option Config
   pub done : IsReplay script w (r.out ++ ends w)
-  pub mirrors : Mirrors (StandsFor r.desk) r.desk.cap s w config r.seen r.slots
+  pub mirrors : Mirrors (StandsFor r.desk) r.desk.cap s w r.gens r.slots
 
 -- a whole round: the rounds are over where it was still, else the next one begins
-abbrev pub OnRound : List ScriptLine → Config → Bool → Replay → Type 0
-OnRound script config true r = IsPlayedOut script r
-OnRound script config false r = IsInRound script config 0 true r
+abbrev pub OnRound : List ScriptLine → Bool → Replay → Type 0
+OnRound script true r = IsPlayedOut script r
+OnRound script false r = IsInRound script 0 true r

@@ -6,14 +6,14 @@ use Rattle.socks_machine.specs.declared.world.TurnEvent.{TurnEvent}
 use Rattle.socks_machine.specs.Basis.{Basis}
 use Rattle.socks_machine.specs.Transcript.{line, turn_line, ends_of}
 
-unfoldable pub turn_shown : TurnEvent → Record → List ℕ
-turn_shown ev r = turn_line 1 ev (Some r)
+unfoldable pub turn_shown : ℕ → TurnEvent → Record → List ℕ
+turn_shown generation ev r = turn_line generation ev (Some r)
 
-unfoldable pub publish_shown : List ℕ
-publish_shown = line (codes "publish" ∷ number_text 1 ∷ [])
+unfoldable pub publish_shown : ℕ → List ℕ
+publish_shown generation = line (codes "publish" ∷ number_text generation ∷ [])
 
-unfoldable pub see_shown : List ℕ
-see_shown = line (codes "see" ∷ number_text 1 ∷ number_text 1 ∷ [])
+unfoldable pub see_shown : ℕ → List ℕ
+see_shown generation = line (codes "see" ∷ number_text 1 ∷ number_text generation ∷ [])
 
 unfoldable pub open_shown : ℕ → List ℕ
 open_shown number = line (codes "open" ∷ number_text 1 ∷ number_text number ∷ [])

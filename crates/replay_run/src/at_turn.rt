@@ -1,29 +1,32 @@
-ghost use Rattle.std.specs.Prelude.{◌≡◌, ◌<◌, length, IfOk, slice_get};
-ghost use Rattle.rule_list.specs.Numbers.{FitsNumbers};
+ghost use Rattle.std.specs.Prelude.{◌≡◌, ◌<◌, ◌≤◌, length, IfOk, slice_get};
 ghost use Rattle.replay_run.specs.AtTurn.{TurnsAt};
+ghost use Rattle.replay_run.specs.Mirrors.{HasSeen};
 
 use crate::slot::Slot;
 use crate::state::Replay;
 use crate::totals::Totals;
 use crate::turns::{make_turn, to_slot, write_turn};
-use conf_model::Config;
+use generation::Gens;
 use std::alloc::{AllocError, Global};
 
 impl Replay {
-    /// A turn on the association at this place, with its line; and whether nothing came of it. One that has ended stays
-    /// as it is.
-    pub fn turn_at(&mut self, alloc: Global, config: &Config, at: usize) -> Result<bool, AllocError>
-        requires numbers { FitsNumbers config.now }
+    /// A turn on the association at this place, in the generation that was seen last, with its line; and whether nothing came
+    /// of it. One that has ended stays as it is.
+    pub fn turn_at(&mut self, alloc: Global, at: usize) -> Result<bool, AllocError>
+        requires seen { HasSeen self.old.gens }
+        requires below { self.old.gens.seen ≤ length self.old.gens.configs }
         requires within { at < length self.old.slots }
         ensures kept { IfOk result (λ _. length self.new.slots ≡ length self.old.slots) }
-        ensures turned { IfOk result (λ still. TurnsAt config.now at self.old self.new still (slice_get self.old.slots at)) }
+        ensures gens { IfOk result (λ _. self.new.gens ≡ self.old.gens) }
+        ensures turned { IfOk result (λ still. TurnsAt at self.old self.new still (slice_get self.old.slots at)) }
     {
         let slot = self.slots.replace(at, Slot::Away);
         match slot {
             Slot::Going { assoc, mut net } => {
+                let snap = self.gens.snap();
                 let before = Totals::of(&assoc.state);
-                let next = make_turn(alloc, config, &mut self.desk, assoc, &mut net)?;
-                let still = write_turn(alloc, &mut self.out, before, &next)?;
+                let next = make_turn(alloc, snap, &mut self.desk, assoc, &mut net)?;
+                let still = write_turn(alloc, &mut self.out, snap.number, before, &next)?;
                 self.slots.set(at, to_slot(next, net));
                 Ok(still)
             }

@@ -1,10 +1,9 @@
-ghost use Rattle.std.specs.Prelude.{◌≡◌, IfOk, Option as Maybe};
-ghost use Rattle.conf_model.specs.declared.config.Config.{Config};
+ghost use Rattle.std.specs.Prelude.{◌≡◌, IfOk};
 ghost use Rattle.net_ends.specs.Plans.{planned};
 ghost use Rattle.socks_machine.specs.declared.script.ScriptLine.TheVariants.{Client, ClientEnd, TargetEnd, Dial};
 ghost use Rattle.replay_script.specs.Conditions.{IsServedOutcome};
 ghost use Rattle.assoc_core.specs.Turns.{outer_of};
-ghost use Rattle.replay_run.specs.Behind.{Goes, IsDue};
+ghost use Rattle.replay_run.specs.Behind.{GoesBehind, IsDue};
 
 use crate::slot::Slot;
 use crate::state::Replay;
@@ -28,8 +27,8 @@ fn plan_of(outer: Outer) -> DialPlan
 impl Replay {
     /// The line `client`.
     pub fn client(&mut self, number: u64, bytes: &[u8]) -> Result<(), AllocError>
-        requires due { (config : Maybe Config) × IsDue (Client number bytes.now) config self.old }
-        ensures { IfOk result (λ _. Goes (Client number bytes.now) self.old self.new) }
+        requires due { IsDue (Client number bytes.now) self.old }
+        ensures { IfOk result (λ _. GoesBehind (Client number bytes.now) self.old self.new) }
     {
         let at = (number - 1) as usize;
         let mut slot = self.slots.replace(at, Slot::Away);
@@ -40,8 +39,8 @@ impl Replay {
 
     /// The line `clientend`.
     pub fn client_end(&mut self, number: u64)
-        requires due { (config : Maybe Config) × IsDue (ClientEnd number) config self.old }
-        ensures { Goes (ClientEnd number) self.old self.new }
+        requires due { IsDue (ClientEnd number) self.old }
+        ensures { GoesBehind (ClientEnd number) self.old self.new }
     {
         let at = (number - 1) as usize;
         let mut slot = self.slots.replace(at, Slot::Away);
@@ -51,8 +50,8 @@ impl Replay {
 
     /// The line `targetend`.
     pub fn target_end(&mut self, number: u64)
-        requires due { (config : Maybe Config) × IsDue (TargetEnd number) config self.old }
-        ensures { Goes (TargetEnd number) self.old self.new }
+        requires due { IsDue (TargetEnd number) self.old }
+        ensures { GoesBehind (TargetEnd number) self.old self.new }
     {
         let at = (number - 1) as usize;
         let mut slot = self.slots.replace(at, Slot::Away);
@@ -62,8 +61,8 @@ impl Replay {
 
     /// The line `dial`.
     pub fn dial(&mut self, number: u64, outer: Outer)
-        requires due { (config : Maybe Config) × IsDue (Dial number outer) config self.old }
-        ensures { Goes (Dial number outer) self.old self.new }
+        requires due { IsDue (Dial number outer) self.old }
+        ensures { GoesBehind (Dial number outer) self.old self.new }
     {
         let at = (number - 1) as usize;
         let mut slot = self.slots.replace(at, Slot::Away);

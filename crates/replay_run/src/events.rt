@@ -1,9 +1,8 @@
-ghost use Rattle.std.specs.Prelude.{◌≡◌, IfOk, IfSome, Some, Option as Maybe};
-ghost use Rattle.conf_model.specs.declared.config.Config.{Config as SomeConfig};
+ghost use Rattle.std.specs.Prelude.{◌≡◌, ◌<◌, IfOk, IfSome, length};
 ghost use Rattle.net_ends.specs.InMemory.{fresh_link, fresh_net};
 ghost use Rattle.socks_machine.specs.declared.script.ScriptLine.TheVariants.{Publish, See, Open};
 ghost use Rattle.socks_machine.specs.Step.{fresh};
-ghost use Rattle.replay_run.specs.Behind.{Goes, GoesBehind};
+ghost use Rattle.replay_run.specs.Behind.{GoesBehind};
 ghost use Rattle.replay_run.specs.Changes.{opened_slot};
 
 use crate::lines::{show_open, show_publish, show_see};
@@ -11,6 +10,8 @@ use crate::slot::Slot;
 use crate::state::Replay;
 use addr_pattern::Endpoint;
 use assoc_core::Assoc;
+use conf_model::Config;
+use generation::Gens;
 use net_ends::{MemLink, MemNet};
 use std::alloc::{AllocError, Global};
 
@@ -35,18 +36,23 @@ fn opened(alloc: Global, number: u64, peer: Endpoint, local: Endpoint) -> Option
 
 impl Replay {
     /// The line `publish`.
-    pub fn publish(&mut self, alloc: Global) -> Result<(), AllocError>
-        ensures { IfOk result (λ _. (config : Maybe SomeConfig) (k : SomeConfig) → GoesBehind (Publish k) config (Some k) self.old self.new) }
+    pub fn publish(&mut self, alloc: Global, config: &Config) -> Result<(), AllocError>
+        ensures { IfOk result (λ _. GoesBehind (Publish config.now) self.old self.new) }
     {
-        show_publish(alloc, &mut self.out)
+        let copied = config.copy(alloc)?;
+        match self.gens.push(copied) {
+            Err(_) => Err(AllocError),
+            Ok(number) => show_publish(alloc, &mut self.out, number),
+        }
     }
 
     /// The line `see`.
     pub fn see(&mut self, alloc: Global) -> Result<(), AllocError>
-        ensures { IfOk result (λ _. Goes (See 1) self.old self.new) }
+        requires { 0 < length self.old.gens.configs }
+        ensures { IfOk result (λ _. GoesBehind (See 1) self.old self.new) }
     {
-        self.seen = true;
-        show_see(alloc, &mut self.out)
+        let number = self.gens.see();
+        show_see(alloc, &mut self.out, number)
     }
 
     /// The line `open`.
@@ -57,7 +63,7 @@ impl Replay {
         peer: Endpoint,
         local: Endpoint,
     ) -> Result<(), AllocError>
-        ensures { IfOk result (λ _. Goes (Open 1 number peer local) self.old self.new) }
+        ensures { IfOk result (λ _. GoesBehind (Open 1 number peer local) self.old self.new) }
     {
         match opened(alloc, number, peer, local) {
             None => Err(AllocError),

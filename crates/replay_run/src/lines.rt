@@ -12,23 +12,24 @@ use socks_machine::{NextMark, Record};
 use std::alloc::{AllocError, Global};
 use transcript_text as text;
 
-/// The line of a turn of worker 1 in generation 1.
+/// The line of a turn of worker 1 in this generation.
 pub fn show_turn(
     alloc: Global,
     out: &mut Text,
+    generation: u64,
     made: Totals,
     next: NextMark,
     left: &Record,
 ) -> Result<(), AllocError>
     ensures { OnOk result ((ev : TurnEvent) → ev.worker ≡ 1 → ev.number ≡ left.now.number → length ev.c ≡ made.took_c → length ev.t ≡ made.took_t
         → ev.sent_c ≡ made.sent_c → ev.sent_t ≡ made.sent_t → ev.next ≡ next → is_udp left.now ≡ false
-        → out.new ≡ out.old ++ turn_shown ev left.now) }
+        → out.new ≡ out.old ++ turn_shown generation ev left.now) }
 {
     text::add_turn(
         alloc,
         out,
         1,
-        1,
+        generation,
         (made.took_c, made.took_t),
         (made.sent_c, made.sent_t),
         next,
@@ -36,18 +37,18 @@ pub fn show_turn(
     )
 }
 
-/// The line of the one configuration.
-pub fn show_publish(alloc: Global, out: &mut Text) -> Result<(), AllocError>
-    ensures { OnOk result (out.new ≡ out.old ++ publish_shown) }
+/// The line of a configuration that was published.
+pub fn show_publish(alloc: Global, out: &mut Text, generation: u64) -> Result<(), AllocError>
+    ensures { OnOk result (out.new ≡ out.old ++ publish_shown generation) }
 {
-    text::add_publish(alloc, out, 1)
+    text::add_publish(alloc, out, generation)
 }
 
 /// The line of a see of worker 1.
-pub fn show_see(alloc: Global, out: &mut Text) -> Result<(), AllocError>
-    ensures { OnOk result (out.new ≡ out.old ++ see_shown) }
+pub fn show_see(alloc: Global, out: &mut Text, generation: u64) -> Result<(), AllocError>
+    ensures { OnOk result (out.new ≡ out.old ++ see_shown generation) }
 {
-    text::add_see(alloc, out, 1, 1)
+    text::add_see(alloc, out, 1, generation)
 }
 
 /// The line of an association that worker 1 opened.

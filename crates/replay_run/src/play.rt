@@ -1,16 +1,15 @@
-ghost use Rattle.std.specs.Prelude.{◌≡◌, ◌∷◌, ◌++◌, [], IfOk, IfSome, Option as Maybe, List as Items, None};
-ghost use Rattle.rule_list.specs.Numbers.{FitsNumbers};
+ghost use Rattle.std.specs.Prelude.{◌≡◌, [], IfOk, List as Items};
 ghost use Rattle.socks_machine.specs.declared.script.ScriptLine.{ScriptLine as SomeLine};
 ghost use Rattle.socks_machine.specs.declared.script.ScriptLine.TheVariants.{Turn};
 ghost use Rattle.socks_machine.specs.declared.world.World.{World};
 ghost use Rattle.socks_machine.specs.Follows.{IsReplay, opens_of as opens_in};
 ghost use Rattle.replay_script.specs.Conditions.{IsServed, start};
-ghost use Rattle.replay_run.specs.Behind.{GoesBehind, IsBehind, IsDue, config_of};
+ghost use Rattle.replay_run.specs.Behind.{GoesBehind, IsBehind, IsDue};
 
 use crate::ends::write_ends;
 use crate::state::Replay;
-use conf_model::Config;
 use conf_text::{List, Text};
+use generation::ListGens;
 use session_desk::Desk;
 use socks_machine::ScriptLine;
 use std::alloc::{AllocError, Global};
@@ -31,7 +30,7 @@ fn opens_of(lines: &[ScriptLine]) -> usize
 
 impl Replay {
     fn make(alloc: Global, opens: usize) -> Result<Replay, AllocError>
-        ensures { IfOk result (λ replay. (script : Items SomeLine) → IsServed script → opens ≡ opens_in script → IsBehind script [] start None replay) }
+        ensures { IfOk result (λ replay. (script : Items SomeLine) → IsServed script → opens ≡ opens_in script → IsBehind script [] start replay) }
     {
         if opens > u32::MAX as usize {
             return Err(AllocError);
@@ -40,7 +39,7 @@ impl Replay {
             Err(_) => Err(AllocError),
             Ok(desk) => Ok(Replay {
                 desk,
-                seen: false,
+                gens: ListGens::make(alloc),
                 slots: List::make(alloc),
                 out: Text::make(alloc),
             }),
@@ -48,62 +47,43 @@ impl Replay {
     }
 
     /// The line `turn`, which says nothing where the association has ended.
-    fn turn(
-        &mut self,
-        alloc: Global,
-        config: Option<&Config>,
-        number: u64,
-    ) -> Result<(), AllocError>
-        requires due { IsDue (Turn 1 number) (config_of config) self.old }
-        ensures { IfOk result (λ _. GoesBehind (Turn 1 number) (config_of config.entry) (config_of config.entry) self.old self.new) }
+    fn turn(&mut self, alloc: Global, number: u64) -> Result<(), AllocError>
+        requires due { IsDue (Turn 1 number) self.old }
+        ensures { IfOk result (λ _. GoesBehind (Turn 1 number) self.old self.new) }
     {
-        match config {
-            None => Ok(()),
-            Some(config) => {
-                self.turn_at(alloc, config, (number - 1) as usize)?;
-                Ok(())
-            }
-        }
+        self.turn_at(alloc, (number - 1) as usize)?;
+        Ok(())
     }
 
-    /// A line of the script, and the configuration that is published behind it.
-    fn line<'a>(
-        &mut self,
-        alloc: Global,
-        config: Option<&'a Config>,
-        line: &'a ScriptLine,
-    ) -> Result<Option<&'a Config>, AllocError>
-        requires due { IsDue line.now (config_of config) self.old }
-        ensures { IfOk result (λ left. GoesBehind line.now (config_of config.entry) (config_of left) self.old self.new) }
+    /// A line of the script.
+    fn line(&mut self, alloc: Global, line: &ScriptLine) -> Result<(), AllocError>
+        requires due { IsDue line.now self.old }
+        ensures { IfOk result (λ _. GoesBehind line.now self.old self.new) }
     {
         match line {
-            ScriptLine::Publish(published) => {
-                self.publish(alloc)?;
-                return Ok(Some(published));
-            }
+            ScriptLine::Publish(config) => self.publish(alloc, config)?,
             ScriptLine::See(_) => self.see(alloc)?,
             ScriptLine::Open(_, number, peer, local) => self.open(alloc, *number, *peer, *local)?,
             ScriptLine::Client(number, bytes) => self.client(*number, bytes.as_slice())?,
             ScriptLine::ClientEnd(number) => self.client_end(*number),
             ScriptLine::TargetEnd(number) => self.target_end(*number),
             ScriptLine::Dial(number, outer) => self.dial(*number, *outer),
-            ScriptLine::Turn(_, number) => self.turn(alloc, config, *number)?,
+            ScriptLine::Turn(_, number) => self.turn(alloc, *number)?,
             _ => {}
         }
-        Ok(config)
+        Ok(())
     }
 
     /// All lines in their order, then the closing rounds, and what became of each association.
     fn play(&mut self, alloc: Global, lines: &[ScriptLine]) -> Result<(), AllocError>
         requires served { IsServed lines.now }
-        requires first { IsBehind lines.now [] start None self.old }
+        requires first { IsBehind lines.now [] start self.old }
         ensures { IfOk result (λ _. (world : World) × IsReplay lines.now world self.new.out) }
     {
-        let mut config = None;
         'playing: for line in lines {
-            config = self.line(alloc, config, line)?;
+            self.line(alloc, line)?;
         }
-        self.close(alloc, config)?;
+        self.close(alloc)?;
         write_ends(alloc, &mut self.out, self.slots.as_slice())
     }
 }
@@ -119,7 +99,7 @@ pub fn replay(alloc: Global, script: &List<ScriptLine>) -> Result<Text, AllocErr
         Ok(()) => {
             let Replay {
                 desk,
-                seen,
+                gens,
                 slots,
                 out,
             } = replay;

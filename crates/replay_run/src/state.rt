@@ -1,13 +1,14 @@
 use crate::slot::Slot;
 use conf_text::{List, Text};
+use generation::ListGens;
 use session_desk::Desk;
 
-/// A replay between two lines: the desk, whether the worker has seen, the associations in their order, and the transcript
-/// so far.
+/// A replay between two lines: the desk, what was published and seen by the one worker, the associations in their order, and
+/// the transcript so far.
 #[derive(Drop)]
 pub struct Replay {
     pub desk: Desk,
-    pub seen: bool,
+    pub gens: ListGens,
     pub slots: List<Slot>,
     pub out: Text,
 }

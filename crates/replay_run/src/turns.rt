@@ -1,4 +1,5 @@
 ghost use Rattle.std.specs.Prelude.{◌≡◌, ◌&&◌, ◌==◌, IfOk};
+ghost use Rattle.std.specs.Arc.{arc_value};
 ghost use Rattle.rule_list.specs.Numbers.{FitsNumbers};
 ghost use Rattle.socks_machine.specs.Equal.{mark_eq};
 ghost use Rattle.replay_run.specs.Taken.{MakesTurn, WritesTurn, mark_of_next, left_record, slot_of};
@@ -7,8 +8,8 @@ use crate::lines::show_turn;
 use crate::slot::Slot;
 use crate::totals::Totals;
 use assoc_core::{Assoc, Next, turn};
-use conf_model::Config;
 use conf_text::Text;
+use generation::Snap;
 use net_ends::{MemLink, MemNet};
 use session_desk::Desk;
 use socks_machine::{NextMark, Record};
@@ -61,19 +62,19 @@ fn is_still(mark: NextMark, made: Totals) -> bool
     waits(mark) && made.are_zero()
 }
 
-/// A turn of the one worker on an association, in generation 1 at the moment 0. The desk's mark never comes in a replay:
-/// it stands only behind line 2^64 - 1 of the decision history.
+/// A turn of the one worker on an association, in the generation that it saw, at the moment 0. Where the desk's mark stands,
+/// which comes only behind line 2^64 - 1 of the decision history, it is `Err`.
 pub fn make_turn(
     alloc: Global,
-    config: &Config,
+    snap: &Snap,
     desk: &mut Desk,
     assoc: Assoc<MemLink>,
     net: &mut MemNet,
 ) -> Result<Next<MemLink>, AllocError>
-    requires { FitsNumbers config.now }
-    ensures { IfOk result (λ next. MakesTurn config.now desk.old desk.new assoc net.old next net.new) }
+    requires { FitsNumbers (arc_value snap.now.config) }
+    ensures { IfOk result (λ next. MakesTurn snap.now.number (arc_value snap.now.config) desk.old desk.new assoc net.old next net.new) }
 {
-    let next = turn(alloc, assoc, 1, config, desk, net, 0)?;
+    let next = turn(alloc, assoc, snap.number, &snap.config, desk, net, 0)?;
     if desk.mark().is_some() {
         return Err(AllocError);
     }
@@ -84,14 +85,15 @@ pub fn make_turn(
 pub fn write_turn(
     alloc: Global,
     out: &mut Text,
+    generation: u64,
     before: Totals,
     next: &Next<MemLink>,
 ) -> Result<bool, AllocError>
-    ensures { IfOk result (λ still. WritesTurn before next.now out.old out.new still) }
+    ensures { IfOk result (λ still. WritesTurn generation before next.now out.old out.new still) }
 {
     let left = record_of(next);
     let made = Totals::of(left).since(before);
     let mark = mark_of(next);
-    show_turn(alloc, out, made, mark, left)?;
+    show_turn(alloc, out, generation, made, mark, left)?;
     Ok(is_still(mark, made))
 }

@@ -1,12 +1,15 @@
 -- A text has one reading.
 use Rattle.std.proofs.Common.{◌≡◌, ◌≢◌, ◌+◌, ℕ, List, [], ◌∷◌, length, sym, subst, ap, ◌∙◌, refl, arith}
+use Rattle.conf_model.specs.declared.fault.ConfFault.{ConfFault}
 use Rattle.socks_machine.specs.declared.script.ScriptLine.{ScriptLine}
 use Rattle.replay_script.specs.declared.entry.Entry.{Entry}
 use Rattle.replay_script.specs.declared.state.State.{State}
 use Rattle.replay_script.specs.declared.fault.ScriptKind.{ScriptKind}
 use Rattle.replay_script.specs.Conditions.{start}
-use Rattle.replay_script.specs.Script.{behind_entry, lines_of, Serves, Reads, Stuck, AreLines, IsStuckAt, IsScript, IsNotBuilt, Faulty, header}
-use Rattle.replay_script.proofs.Steps.{one_begins, begins_shorter}
+use Rattle.replay_script.specs.Script.{behind_entry, lines_of, Serves, Reads, Stuck, AreLines, IsStuckAt, IsRefusedAt, IsScript, IsNotBuilt, IsRefused, Faulty, header}
+use Rattle.replay_script.specs.Conf.{Refuses}
+use Rattle.replay_script.proofs.Publishing.{one_refusal}
+use Rattle.replay_script.proofs.Steps.{one_begins, begins_shorter, refused_apart, refused_some}
 use Rattle.replay_script.proofs.Reading.{one_first}
 
 -- nothing more is served
@@ -36,7 +39,11 @@ none_behind s = λ l lines behind h. let k = begins_shorter [] l lines behind h.
 
 stuck_none : (s : State) (text : List ℕ) → Stuck s text → NoMore s text
 unfolding NoMore
-stuck_none s text h = h.1
+stuck_none s text h = h.1.serves
+
+refused_none : (s : State) (text : List ℕ) (fault : ConfFault) → Refuses text fault → NoMore s text
+unfolding NoMore
+refused_none s text fault h = λ l lines behind k. refused_apart text fault l lines behind h k.begins
 
 pub scripts_agree : (text : List ℕ) (ls ms : List ScriptLine) → IsScript text ls → IsScript text ms → ls ≡ ms
 scripts_agree text ls ms h k =
@@ -56,6 +63,33 @@ script_apart text ls n h k =
     let some = b.stuck.0 in
     absurd (omega (arith, e, some))
 
+-- nor is a script refused
+script_unrefused : (text : List ℕ) (ls : List ScriptLine) (n : ℕ) (fault : ConfFault) → IsScript text ls → IsRefused text n fault → ⊥
+script_unrefused text ls n fault h k =
+    let q = (one_first text header header h.behind k.behind h.head k.head).1 in
+    let a = h.lines in
+    let b : IsRefusedAt h.behind n fault = subst (λ (z : List ℕ). IsRefusedAt z n fault) (sym q) k.refused in
+    let r = (same_reads start h.behind 2 a.entries b.entries [] b.rest a.last b.last a.number n a.reading (none_behind a.last) b.reading (refused_none b.last b.rest fault b.refuses)).1 in
+    let e : 0 ≡ length b.rest = ap length r in
+    let some = refused_some b.rest fault b.refuses in
+    absurd (omega (arith, e, some))
+
+refusals_agree : (text : List ℕ) (n m : ℕ) (f g : ConfFault) → IsRefused text n f → IsRefused text m g → (n ≡ m) × (f ≡ g)
+refusals_agree text n m f g h k =
+    let q = (one_first text header header h.behind k.behind h.head k.head).1 in
+    let a = h.refused in
+    let b : IsRefusedAt h.behind m g = subst (λ (z : List ℕ). IsRefusedAt z m g) (sym q) k.refused in
+    let r = same_reads start h.behind 2 a.entries b.entries a.rest b.rest a.last b.last n m a.reading (refused_none a.last a.rest f a.refuses) b.reading (refused_none b.last b.rest g b.refuses) in
+    (r.2, one_refusal a.rest f g a.refuses (subst (λ (z : List ℕ). Refuses z g) (sym r.1) b.refuses))
+
+refused_built : (text : List ℕ) (n m : ℕ) (f : ConfFault) → IsRefused text n f → IsNotBuilt text m → ⊥
+refused_built text n m f h k =
+    let q = (one_first text header header h.behind k.behind h.head k.head).1 in
+    let a = h.refused in
+    let b : IsStuckAt h.behind m = subst (λ (z : List ℕ). IsStuckAt z m) (sym q) k.stuck in
+    let r = same_reads start h.behind 2 a.entries b.entries a.rest b.rest a.last b.last n m a.reading (refused_none a.last a.rest f a.refuses) b.reading (stuck_none b.last b.rest b.stuck) in
+    b.stuck.1.refuses f (subst (λ (z : List ℕ). Refuses z f) r.1 a.refuses)
+
 faults_agree : (text : List ℕ) (n m : ℕ) → IsNotBuilt text n → IsNotBuilt text m → n ≡ m
 faults_agree text n m h k =
     let q = (one_first text header header h.behind k.behind h.head k.head).1 in
@@ -68,6 +102,7 @@ pub script_faultless : (text : List ℕ) (ls : List ScriptLine) (n : ℕ) (kind 
 script_faultless text ls n ScriptKind.Length h k = let a = h.small in let b = k.0 in absurd (omega (arith, a, b))
 script_faultless text ls n ScriptKind.Header h k = absurd (k.missing h.behind h.head)
 script_faultless text ls n ScriptKind.NotBuilt h k = absurd (script_apart text ls n h k)
+script_faultless text ls n (ScriptKind.Conf fault) h k = absurd (script_unrefused text ls n fault h k)
 script_faultless text ls n ScriptKind.Memory h k = refl
 
 -- the fault that a text has is one, but for want of memory
@@ -83,3 +118,12 @@ one_fault text n m ScriptKind.Header ScriptKind.Length h k a b = let x = k.0 in 
 one_fault text n m ScriptKind.NotBuilt ScriptKind.Length h k a b = let x = k.0 in let y = h.small in absurd (omega (arith, x, y))
 one_fault text n m ScriptKind.Header ScriptKind.NotBuilt h k a b = absurd (h.missing k.behind k.head)
 one_fault text n m ScriptKind.NotBuilt ScriptKind.Header h k a b = absurd (k.missing h.behind h.head)
+one_fault text n m (ScriptKind.Conf f) (ScriptKind.Conf g) h k a b =
+    let r = refusals_agree text n m f g h k in
+    (r.0, ap (λ (z : ConfFault). ScriptKind.Conf z) r.1)
+one_fault text n m (ScriptKind.Conf f) ScriptKind.Length h k a b = let x = k.0 in let y = h.small in absurd (omega (arith, x, y))
+one_fault text n m ScriptKind.Length (ScriptKind.Conf g) h k a b = let x = h.0 in let y = k.small in absurd (omega (arith, x, y))
+one_fault text n m (ScriptKind.Conf f) ScriptKind.Header h k a b = absurd (k.missing h.behind h.head)
+one_fault text n m ScriptKind.Header (ScriptKind.Conf g) h k a b = absurd (h.missing k.behind k.head)
+one_fault text n m (ScriptKind.Conf f) ScriptKind.NotBuilt h k a b = absurd (refused_built text n m f h k)
+one_fault text n m ScriptKind.NotBuilt (ScriptKind.Conf g) h k a b = absurd (refused_built text m n g k h)

@@ -2,9 +2,8 @@ pub mod Cutting
 pub mod Peeling
 pub mod Reading
 pub mod Unique
-pub mod Nets
 pub mod Sides
-pub mod Rules
+pub mod PlainLaws
 pub mod Publishing
 pub mod Steps
 pub mod Serving

@@ -1,13 +1,16 @@
 -- Entries of a script, one after another.
 use Rattle.std.proofs.Common.{◌≡◌, ◌<◌, ◌≤◌, ◌+◌, ℕ, List, [], ◌∷◌, ◌++◌, length, codes, inl, inr, sym, subst, ap, ◌∙◌, refl, arith}
 use Rattle.conf_model.specs.declared.config.Config.{Config}
+use Rattle.conf_model.specs.declared.fault.ConfFault.{ConfFault}
 use Rattle.socks_machine.specs.declared.script.ScriptLine.{ScriptLine}
 use Rattle.replay_script.specs.declared.entry.Entry.{Entry}
 use Rattle.replay_script.specs.declared.state.State.{State}
+use Rattle.replay_script.specs.Conf.{Refuses}
+use Rattle.replay_script.specs.Cuts.{IsLine}
 use Rattle.replay_script.specs.Forms.{IsNumbered}
 use Rattle.replay_script.specs.Script.{SpellsEntry, Begins, Serves, Reads, lines_of, behind_entry}
 use Rattle.replay_script.proofs.Unique.{one_line, publish_apart, skipped_apart, skipped_publish}
-use Rattle.replay_script.proofs.Publishing.{one_publish, publish_shorter}
+use Rattle.replay_script.proofs.Publishing.{IsHeaded, one_publish, publish_head, publish_shorter, published_unrefused}
 use Rattle.replay_script.proofs.Reading.{one_first, shorter}
 
 -- ---- one entry
@@ -22,17 +25,21 @@ entry_apart : (text : List ℕ) (n : ℕ) (a : Entry) → IsNumbered (codes "pub
 entry_apart text n Entry.Skipped h k = skipped_publish text n k h
 entry_apart text n (Entry.Served l) h k = publish_apart text n l h k
 
+-- a line that counts others is no entry of one line
+headed_apart : (text line behind : List ℕ) (a : Entry) → IsHeaded text → IsLine text line behind → SpellsEntry line a → ⊥
+headed_apart text line behind a h first k =
+    let q = (one_first text line h.first behind h.rest first h.line).0 in
+    entry_apart h.first h.number a h.numbered (subst (λ (z : List ℕ). SpellsEntry z a) q k)
+
 -- a text begins with at most one entry
 pub one_begins : (text : List ℕ) (a b : Entry) (n k : ℕ) (x y : List ℕ) → Begins text a n x → Begins text b k y → (a ≡ b) × (n ≡ k) × (x ≡ y)
 one_begins text a b n k x y (inl g) (inl h) =
     let q = one_first text g.0 h.0 x y g.1 h.1 in
     (one_entry h.0 a b (subst (λ (z : List ℕ). SpellsEntry z a) q.0 g.2) h.2, g.3 ∙ sym h.3, q.1)
 one_begins text a b n k x y (inl g) (inr h) =
-    let q = (one_first text g.0 h.1.0 x h.1.1 g.1 h.1.2).0 in
-    absurd (entry_apart h.1.0 h.1.3.0 a h.1.3.1 (subst (λ (z : List ℕ). SpellsEntry z a) q g.2))
+    absurd (headed_apart text g.0 x a (publish_head text h.1.counted k y h.1.publish) g.1 g.2)
 one_begins text a b n k x y (inr g) (inl h) =
-    let q = (one_first text h.0 g.1.0 y g.1.1 h.1 g.1.2).0 in
-    absurd (entry_apart g.1.0 g.1.3.0 b g.1.3.1 (subst (λ (z : List ℕ). SpellsEntry z b) q h.2))
+    absurd (headed_apart text h.0 y b (publish_head text g.1.counted n x g.1.publish) h.1 h.2)
 one_begins text a b n k x y (inr g) (inr h) =
     let e = one_publish text g.0 h.0 n k x y g.1 h.1 in
     (g.2 ∙ (ap (λ (z : Config). Entry.Served (ScriptLine.Publish z)) e.0 ∙ sym h.2), e.1, e.2)
@@ -42,7 +49,20 @@ one_begin text a b n k x y g h = (one_begins text a b n k x y g h).0
 
 pub begins_shorter : (text : List ℕ) (entry : Entry) (lines : ℕ) (behind : List ℕ) → Begins text entry lines behind → (lines + length behind ≤ length text) × (0 < lines)
 begins_shorter text entry lines behind (inl h) = let a = shorter text h.0 behind h.1 in let e = h.3 in (omega (arith, a, e), omega (arith, e))
-begins_shorter text entry lines behind (inr h) = publish_shorter text h.0 lines behind h.1
+begins_shorter text entry lines behind (inr h) = publish_shorter text h.1.counted lines behind h.1.publish
+
+-- a text that is refused begins with no entry
+pub refused_apart : (text : List ℕ) (fault : ConfFault) (a : Entry) (n : ℕ) (x : List ℕ) → Refuses text fault → Begins text a n x → ⊥
+refused_apart text fault a n x h (inl g) = headed_apart text g.0 x a (publish_head text h.counted h.lines h.behind h.publish) g.1 g.2
+refused_apart text fault a n x h (inr g) = published_unrefused text g.0 n x fault g.1 h
+
+-- nor is it empty
+pub refused_some : (text : List ℕ) (fault : ConfFault) → Refuses text fault → 0 < length text
+refused_some text fault h =
+    let s = publish_shorter text h.counted h.lines h.behind h.publish in
+    let a = s.0 in
+    let b = s.1 in
+    omega (arith, a, b)
 
 -- ---- entries that were read, and one more
 

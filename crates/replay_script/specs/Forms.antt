@@ -1,7 +1,7 @@
 -- The lines of a script, by their spelling.
-use Rattle.std.specs.Prelude.{◌≡◌, ◌<◌, ◌^◌, ◌+◌, ◌*◌, ◌-◌, ◌==◌, ℕ, Bool, true, List, [], ◌∷◌, length, codes, Ok}
-use Rattle.addr_pattern.specs.declared.addr.Addr.{Addr}
+use Rattle.std.specs.Prelude.{◌≡◌, ◌<◌, ◌^◌, ◌-◌, ◌==◌, ℕ, Bool, true, List, [], ◌∷◌, length, codes, Ok}
 use Rattle.addr_pattern.specs.declared.endpoint.Endpoint.{Endpoint}
+use Rattle.addr_pattern.specs.Reading.{endpoint_read}
 use Rattle.hex.specs.Hex.{decode_of}
 use Rattle.socks_machine.specs.declared.world.Outer.{Outer}
 use Rattle.socks_machine.specs.declared.script.ScriptLine.{ScriptLine}
@@ -10,14 +10,9 @@ use Rattle.replay_script.specs.Cuts.{IsNumber, After, NumberThen, CutThen}
 abbrev pub largest : ℕ
 largest = 2 ^ 64 - 1
 
-abbrev pub v4 : ℕ → ℕ → ℕ → ℕ → ℕ → Endpoint
-v4 a b c d port = record { addr = Addr.V4 (((a * 256 + b) * 256 + c) * 256 + d); port = port }
-
--- four octets with dots between them, a colon and a port
+-- an endpoint by its text
 unfoldable pub IsEndpoint : List ℕ → Endpoint → Type 0
-IsEndpoint text e =
-    NumberThen 46 255 text (λ a behind_a. NumberThen 46 255 behind_a (λ b behind_b. NumberThen 46 255 behind_b (λ c behind_c.
-    NumberThen 58 255 behind_c (λ d behind_d. (port : ℕ) × IsNumber 65535 behind_d port × (e ≡ v4 a b c d port)))))
+IsEndpoint text e = endpoint_read text ≡ Ok e
 
 -- an even, positive number of hexadecimal digits in either case
 unfoldable pub IsHex : List ℕ → List ℕ → Type 0

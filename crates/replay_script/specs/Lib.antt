@@ -1,7 +1,7 @@
 pub mod Conditions
 pub mod Cuts
 pub mod Forms
-pub mod Hosts
 pub mod Conf
+pub mod PlainTests
 pub mod Script
 pub mod Laws

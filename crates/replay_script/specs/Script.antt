@@ -2,13 +2,14 @@
 use Rattle.std.specs.Prelude.{◌≡◌, ◌<◌, ◌≤◌, ◌+◌, ◌⊎◌, ℕ, Bool, true, false, List, [], ◌∷◌, length, codes, Result, Ok, Err, Option, Some, None}
 use denote.Ref.{Bor}
 use Rattle.conf_model.specs.declared.config.Config.{Config}
+use Rattle.conf_model.specs.declared.fault.ConfFault.{ConfFault}
 use Rattle.socks_machine.specs.declared.script.ScriptLine.{ScriptLine}
 use Rattle.replay_script.specs.declared.entry.Entry.{Entry}
 use Rattle.replay_script.specs.declared.fault.ScriptFault.{ScriptFault}
 use Rattle.replay_script.specs.declared.fault.ScriptKind.{ScriptKind}
 use Rattle.replay_script.specs.declared.state.State.{State}
 use Rattle.replay_script.specs.Cuts.{IsLine}
-use Rattle.replay_script.specs.Conf.{IsPublish}
+use Rattle.replay_script.specs.Conf.{Publishes, Refuses}
 use Rattle.replay_script.specs.Forms.{Spells, is_skipped}
 use Rattle.replay_script.specs.Conditions.{allows, after, start}
 
@@ -21,7 +22,12 @@ SpellsEntry text (Entry.Served l) = Spells text l
 abbrev pub Begins : List ℕ → Entry → ℕ → List ℕ → Type 0
 Begins text entry lines behind =
     ((line : List ℕ) × IsLine text line behind × SpellsEntry line entry × (lines ≡ 1))
-    ⊎ ((config : Config) × IsPublish text config lines behind × (entry ≡ Entry.Served (ScriptLine.Publish config)))
+    ⊎ ((config : Config) × Publishes text config lines behind × (entry ≡ Entry.Served (ScriptLine.Publish config)))
+
+-- the text begins with nothing that is of a served form, and with no configuration that is refused
+pub record BeginsNothing (text : List ℕ) : Type 0 where
+  pub serves : (entry : Entry) (lines : ℕ) (behind : List ℕ) → Begins text entry lines behind → ⊥
+  pub refuses : (fault : ConfFault) → Refuses text fault → ⊥
 
 abbrev pub entry_allowed : State → Entry → Bool
 entry_allowed s Entry.Skipped = true
@@ -53,9 +59,13 @@ lines_of [] = []
 lines_of (Entry.Skipped ∷ entries) = lines_of entries
 lines_of (Entry.Served l ∷ entries) = l ∷ lines_of entries
 
--- the text begins with no entry that is served
+-- the text begins neither with an entry that is served nor with a configuration that is refused
+pub record Fails (s : State) (text : List ℕ) : Type 0 where
+  pub serves : (entry : Entry) (lines : ℕ) (behind : List ℕ) → Serves s text entry lines behind → ⊥
+  pub refuses : (fault : ConfFault) → Refuses text fault → ⊥
+
 abbrev pub Stuck : State → List ℕ → Type 0
-Stuck s text = (0 < length text) × ((entry : Entry) (lines : ℕ) (behind : List ℕ) → Serves s text entry lines behind → ⊥)
+Stuck s text = (0 < length text) × Fails s text
 
 abbrev pub header : List ℕ
 header = codes "sockd-script 1"
@@ -79,9 +89,18 @@ pub record IsStuckAt (text : List ℕ) (number : ℕ) : Type 0 where
   pub reading : Reads start text 2 entries rest last number
   pub stuck : Stuck last rest
 
+-- the first line behind the header that isn't served has this number, and publishes a text with this fault
+pub record IsRefusedAt (text : List ℕ) (number : ℕ) (fault : ConfFault) : Type 0 where
+  pub entries : List Entry
+  pub rest : List ℕ
+  pub last : State
+  pub reading : Reads start text 2 entries rest last number
+  pub refuses : Refuses rest fault
+
 abbrev pub OnLinesFault : List ℕ → ℕ → ScriptKind → Type 0
 OnLinesFault text number ScriptKind.Length = ⊥
 OnLinesFault text number ScriptKind.Header = ⊥
+OnLinesFault text number (ScriptKind.Conf fault) = IsRefusedAt text number fault
 OnLinesFault text number ScriptKind.NotBuilt = IsStuckAt text number
 OnLinesFault text number ScriptKind.Memory = Unit {0}
 
@@ -89,9 +108,9 @@ abbrev pub OnLines : List ℕ → Result (List ScriptLine) ScriptFault → Type 
 OnLines text (Ok ls) = AreLines text ls
 OnLines text (Err fault) = OnLinesFault text fault.line fault.kind
 
--- the text begins with a served entry and the state goes on behind it, or it begins with none
+-- the text begins with a served entry and the state goes on behind it, or with nothing that is served or refused
 abbrev pub MayStep : State → State → List ℕ → Option (Entry × ℕ × Bor (List ℕ)) → Type 0
-MayStep old new text None = (entry : Entry) (lines : ℕ) (behind : List ℕ) → Serves old text entry lines behind → ⊥
+MayStep old new text None = Fails old text
 MayStep old new text (Some p) = Serves old text p.0 p.1 p.2.now × (new ≡ behind_entry old p.0)
 
 -- the text is this script
@@ -108,6 +127,13 @@ pub record IsNotBuilt (text : List ℕ) (number : ℕ) : Type 0 where
   pub head : IsLine text header behind
   pub stuck : IsStuckAt behind number
 
+-- the first line that isn't served has this number, and publishes a text with this fault
+pub record IsRefused (text : List ℕ) (number : ℕ) (fault : ConfFault) : Type 0 where
+  pub small : length text ≤ longest
+  pub behind : List ℕ
+  pub head : IsLine text header behind
+  pub refused : IsRefusedAt behind number fault
+
 -- the first line isn't the header
 pub record IsHeaderless (text : List ℕ) (number : ℕ) : Type 0 where
   pub small : length text ≤ longest
@@ -117,6 +143,7 @@ pub record IsHeaderless (text : List ℕ) (number : ℕ) : Type 0 where
 abbrev pub Faulty : List ℕ → ℕ → ScriptKind → Type 0
 Faulty text number ScriptKind.Length = (longest < length text) × (number ≡ 0)
 Faulty text number ScriptKind.Header = IsHeaderless text number
+Faulty text number (ScriptKind.Conf fault) = IsRefused text number fault
 Faulty text number ScriptKind.NotBuilt = IsNotBuilt text number
 Faulty text number ScriptKind.Memory = Unit {0}
 

@@ -1,6 +1,7 @@
 ghost use Rattle.std.specs.Prelude.{◌≡◌};
 ghost use Rattle.replay_script.specs.declared.fault.ScriptKind.TheVariants.{Memory};
 
+use conf_model::ConfFault;
 use std::alloc::AllocError;
 
 /// Why a text is no script that is served.
@@ -10,8 +11,11 @@ pub enum ScriptKind {
     Length,
     /// The first line isn't `sockd-script 1`, byte for byte.
     Header,
-    /// The line isn't of a served form, or it breaks its condition. Whatever is wrong in the counted lines of a
-    /// `publish` line is found at that line.
+    /// The counted text of a `publish` line is no configuration. The fault is its first one, and its line counts from the
+    /// first counted line; its kind is never want of memory. The script's line is that of `publish`.
+    Conf(ConfFault),
+    /// The line isn't of a served form, or it breaks its condition. A configuration that isn't served is found at its
+    /// `publish` line.
     NotBuilt,
     /// Memory was refused. The line says nothing.
     Memory,

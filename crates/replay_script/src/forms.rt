@@ -33,10 +33,10 @@ fn open_line(alloc: Global, text: &[u8]) -> Result<Option<(u64, Endpoint, Endpoi
     let Some((front, back)) = cut(ends, b' ') else {
         return Ok(None);
     };
-    let Some(peer) = endpoint(alloc, front)? else {
+    let Some(peer) = endpoint(front) else {
         return Ok(None);
     };
-    let Some(at) = endpoint(alloc, back)? else {
+    let Some(at) = endpoint(back) else {
         return Ok(None);
     };
     Ok(Some((n, peer, at)))
@@ -58,19 +58,15 @@ fn client_line(alloc: Global, text: &[u8]) -> Result<Option<(u64, Text)>, AllocE
 }
 
 /// How a dial comes out.
-fn outcome(alloc: Global, text: &[u8]) -> Result<Option<Outer>, AllocError>
-    ensures { IfOk result (λ found. MatchOption found ((outer : SomeOuter) → IsOutcome text.now outer → ⊥) (λ outer. IsOutcome text.now outer)) }
+fn outcome(text: &[u8]) -> Option<Outer>
+    ensures { MatchOption result ((outer : SomeOuter) → IsOutcome text.now outer → ⊥) (λ outer. IsOutcome text.now outer) }
 {
     if same(text, b"refused") {
-        return Ok(Some(Outer::Refused));
+        return Some(Outer::Refused);
     }
-    let Some(back) = behind(text, b"up ") else {
-        return Ok(None);
-    };
-    let Some(local) = endpoint(alloc, back)? else {
-        return Ok(None);
-    };
-    Ok(Some(Outer::Up(local)))
+    let back = behind(text, b"up ")?;
+    let local = endpoint(back)?;
+    Some(Outer::Up(local))
 }
 
 fn dial_line(alloc: Global, text: &[u8]) -> Result<Option<(u64, Outer)>, AllocError>
@@ -82,7 +78,7 @@ fn dial_line(alloc: Global, text: &[u8]) -> Result<Option<(u64, Outer)>, AllocEr
     let Some((n, back)) = number_then(alloc, rest, b' ', u64::MAX)? else {
         return Ok(None);
     };
-    let Some(outer) = outcome(alloc, back)? else {
+    let Some(outer) = outcome(back) else {
         return Ok(None);
     };
     Ok(Some((n, outer)))

@@ -1,4 +1,4 @@
-//! The reader of scripts: the lines of one worker that the first path serves.
+//! The reader of scripts: the lines of one worker that are served.
 #![tactic(auto)]
 
 mod conf;
@@ -6,7 +6,6 @@ mod cuts;
 mod entry;
 mod fault;
 mod forms;
-mod hosts;
 mod laws;
 mod script;
 mod state;

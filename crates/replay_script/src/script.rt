@@ -1,8 +1,9 @@
-ghost use Rattle.std.specs.Prelude.{◌≡◌, ◌≤◌, ◌++◌, [], ◌∷◌, ℕ, List as Items, length, IfOk, OnOk, MatchOption};
+ghost use Rattle.std.specs.Prelude.{◌≡◌, ◌≢◌, ◌<◌, ◌≤◌, ◌^◌, ◌++◌, [], ◌∷◌, ℕ, List as Items, length, IfErr, IfOk, OnOk, MatchOption};
 ghost use Rattle.replay_script.specs.declared.entry.Entry.{Entry as SomeEntry};
+ghost use Rattle.replay_script.specs.Conf.{Refuses};
 ghost use Rattle.replay_script.specs.Conditions.{IsServed};
 ghost use Rattle.replay_script.specs.Cuts.{IsLine};
-ghost use Rattle.replay_script.specs.Script.{OnRead, OnLines, MayStep, Entered, Begins, SpellsEntry, lines_of, longest};
+ghost use Rattle.replay_script.specs.Script.{OnRead, OnLines, MayStep, Entered, Begins, BeginsNothing, SpellsEntry, lines_of, longest};
 
 use crate::conf::publish;
 use crate::cuts::{first_line, same};
@@ -10,6 +11,7 @@ use crate::entry::Entry;
 use crate::fault::{ScriptFault, ScriptKind};
 use crate::forms::{is_skipped, line_of};
 use crate::state::State;
+use conf_model::{ConfFault, ConfKind};
 use conf_text::List;
 use socks_machine::ScriptLine;
 use std::alloc::{AllocError, Global};
@@ -43,9 +45,9 @@ fn single(alloc: Global, text: &[u8]) -> Result<Option<(Entry, &[u8])>, AllocErr
 }
 
 /// The entry at the front of a text, its count of lines, and the text behind it.
-fn begins(alloc: Global, text: &[u8]) -> Result<Option<(Entry, u64, &[u8])>, AllocError>
-    ensures { IfOk result (λ found. MatchOption found ((entry : SomeEntry) (lines : ℕ) (behind : Items ℕ) → Begins text.now entry lines behind → ⊥)
-        (λ p. Begins text.now p.0 p.1 p.2.now)) }
+fn begins(alloc: Global, text: &[u8]) -> Result<Option<(Entry, u64, &[u8])>, ConfFault>
+    ensures begins { IfOk result (λ found. MatchOption found (BeginsNothing text.now) (λ p. Begins text.now p.0 p.1 p.2.now)) }
+    ensures refused { IfErr result (λ fault. fault.kind ≢ ConfKind.Memory → Refuses text.now fault) }
 {
     match publish(alloc, text) {
         Err(e) => return Err(e),
@@ -56,7 +58,7 @@ fn begins(alloc: Global, text: &[u8]) -> Result<Option<(Entry, u64, &[u8])>, All
         Ok(None) => {}
     }
     match single(alloc, text) {
-        Err(e) => Err(e),
+        Err(e) => Err(ConfFault::from(e)),
         Ok(None) => Ok(None),
         Ok(Some((entry, behind))) => Ok(Some((entry, 1, behind))),
     }
@@ -77,14 +79,15 @@ fn served<'a>(
     alloc: Global,
     state: &mut State,
     text: &'a [u8],
-) -> Result<Option<(Entry, u64, &'a [u8])>, AllocError>
-    ensures { IfOk result (λ found. MayStep state.old state.new text.now found) }
+) -> Result<Option<(Entry, u64, &'a [u8])>, ConfFault>
+    ensures steps { IfOk result (λ found. MayStep state.old state.new text.now found) }
+    ensures refused { IfErr result (λ fault. fault.kind ≢ ConfKind.Memory → Refuses text.now fault) }
 {
     match begins(alloc, text) {
         Err(e) => Err(e),
         Ok(None) => Ok(None),
         Ok(Some((entry, lines, behind))) => match enters(alloc, state, &entry) {
-            Err(e) => Err(e),
+            Err(e) => Err(ConfFault::from(e)),
             Ok(false) => Ok(None),
             Ok(true) => Ok(Some((entry, lines, behind))),
         },
@@ -101,6 +104,21 @@ fn add_entry(lines: &mut List<ScriptLine>, entry: Entry) -> Result<(), AllocErro
     }
 }
 
+/// The fault of a script whose configuration at this line is refused.
+fn refused(number: u64, fault: ConfFault) -> ScriptFault
+    requires { number < 2 ^ 32 }
+    ensures memory { fault.kind ≡ ConfKind.Memory → result.kind ≡ ScriptKind.Memory }
+    ensures refused { fault.kind ≢ ConfKind.Memory → (result.line ≡ number) × (result.kind ≡ ScriptKind.Conf fault) }
+{
+    match fault.kind {
+        ConfKind::Memory => ScriptFault::from(AllocError),
+        _ => ScriptFault {
+            line: number as u32,
+            kind: ScriptKind::Conf(fault),
+        },
+    }
+}
+
 /// The lines behind the header.
 fn read_lines(alloc: Global, text: &[u8]) -> Result<List<ScriptLine>, ScriptFault>
     requires { length text.now ≤ longest }
@@ -112,7 +130,7 @@ fn read_lines(alloc: Global, text: &[u8]) -> Result<List<ScriptLine>, ScriptFaul
     let mut number: u64 = 2;
     'reading: while !rest.is_empty() {
         match served(alloc, &mut state, rest) {
-            Err(e) => return Err(ScriptFault::from(e)),
+            Err(fault) => return Err(refused(number, fault)),
             Ok(None) => {
                 return Err(ScriptFault {
                     line: number as u32,

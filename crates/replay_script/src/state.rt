@@ -224,9 +224,6 @@ impl State {
     {
         match line {
             ScriptLine::Publish(_) => {
-                if self.published {
-                    return Ok(false);
-                }
                 self.published = true;
                 Ok(true)
             }

@@ -1,5 +1,6 @@
 use super::*;
-use conf_text::Text;
+use conf_model::{ConfFault, ConfKind};
+use conf_text::{Text, TextFault};
 use socks_machine::{Outer, ScriptLine};
 use std::alloc::{AllocError, Global};
 use std::test::*;
@@ -37,62 +38,78 @@ fn the_first_line(rt: HostRuntime) -> Result<(), Fail> {
 }
 
 #[test]
-fn the_configuration(rt: HostRuntime) -> Result<(), Fail> {
+fn the_lines_before_a_configuration(rt: HostRuntime) -> Result<(), Fail> {
     for (line, text) in [
         (2, "stop\n"),
         (2, "see 1\n"),
         (3, "\nsee 1"),
         (4, "#\n\nsee 1\n\n"),
-        (2, "publish 1\ninternal: 1.2.3.4 port = 1\n"),
-        (2, "publish 2\ninternal: 1.2.3.4 port = 1\n"),
+        (2, "publish\n"),
+        (2, "publish 01\ninternal: 1.2.3.4\n"),
+        (2, "publish 2\ninternal: 1.2.3.4\n"),
+        (2, "publish 18446744073709551615\ninternal: 1.2.3.4\n"),
+        (2, "publish 18446744073709551616\ninternal: 1.2.3.4\n"),
+        (4, "publish 1\ninternal: 1.2.3.4\nturn 1 1\n"),
+        (2, "publish 2\ninternal: 1.2.3.4\nmethod: username\n"),
+        (2, "publish 2\ninternal: 1.2.3.4\nmethod: none username\n"),
         (
             2,
-            "publish 02\ninternal: 1.2.3.4 port = 1\nclient pass { from: 0/0 to: 0/0 }\n",
-        ),
-        (
-            2,
-            "publish 3\ninternal: 1.2.3.4 port = 1\nclient pass { from: 0/0 to: 0/0 }\nsee 1\n",
-        ),
-        (
-            2,
-            "publish 2\ninternal: 1.2.3.4 port = 0\nclient pass { from: 0/0 to: 0/0 }\n",
+            "publish 2\ninternal: 1.2.3.4\nsocks pass { session.max: 1 }\n",
         ),
         (
             2,
-            "publish 2\ninternal: 1.2.3.4 port = 65536\nclient pass { from: 0/0 to: 0/0 }\n",
+            "publish 2\ninternal: 1.2.3.4\nclient pass { session.max: 0 }\n",
         ),
-        (
-            2,
-            "publish 2\ninternal: 1.2.3.256 port = 1\nclient pass { from: 0/0 to: 0/0 }\n",
-        ),
-        (
-            2,
-            "publish 2\ninternal: 1.2.3.4 port = 1\nclient block { from: 0/0 to: 0/0 }\n",
-        ),
-        (
-            2,
-            "publish 3\ninternal: 1.2.3.4 port = 1\nclient pass { from: 0/0 to: 0/0 }\nsocks pass { from: 10.0.0.1/8 to: 0/0 }\n",
-        ),
-        (
-            2,
-            "publish 3\ninternal: 1.2.3.4 port = 1\nclient pass { from: 0/0 to: 0/0 }\nsocks pass { from: 10.0.0.0/33 to: 0/0 }\n",
-        ),
-        (
-            2,
-            "publish 3\ninternal: 1.2.3.4 port = 1\nclient pass { from: 0/0 to: 0/0 }\nsocks pass { from: 0/0 to: a.example }\n",
-        ),
-        (
-            5,
-            "publish 2\ninternal: 1.2.3.4 port = 1\nclient pass { from: 0/0 to: 0/0 }\nturn 1 1\n",
-        ),
+        (2, "publish 2\ninternal: 1.2.3.4\nroute { via: 5.6.7.8 }\n"),
         (
             6,
-            "#\npublish 2\ninternal: 1.2.3.4 port = 1\nclient pass { from: 0/0 to: 0/0 }\npublish 2\ninternal: 1.2.3.4 port = 1\nclient pass { from: 0/0 to: 0/0 }\n",
+            "#\npublish 2\ninternal: 1.2.3.4\nroute { via: direct }\npublish 2\ninternal: 1.2.3.4\nmethod: username\n",
         ),
     ] {
         let (at, kind) = fault_of(rt.alloc(), HEAD, text)?;
         assert_eq!(rt; at, line, "at {text}");
         assert_eq!(rt; kind, ScriptKind::NotBuilt, "at {text}");
+    }
+    Ok(())
+}
+
+#[test]
+fn the_configuration(rt: HostRuntime) -> Result<(), Fail> {
+    for (line, at, kind, text) in [
+        (2, 0, ConfKind::MissingInternal, "publish 0\n"),
+        (
+            2,
+            1,
+            ConfKind::Text(TextFault::NoColon(1)),
+            "publish 1\nsee 1\n",
+        ),
+        (
+            2,
+            2,
+            ConfKind::GssapiRefused,
+            "publish 2\ninternal: 1.2.3.4\nmethod: gssapi\n",
+        ),
+        (2, 1, ConfKind::BadValue, "publish 1\ninternal: 1.2.3.256"),
+        (
+            2,
+            2,
+            ConfKind::Text(TextFault::UnclosedBlock(2)),
+            "publish 2\ninternal: 1.2.3.4\nsocks pass {\n}\n",
+        ),
+        (
+            5,
+            1,
+            ConfKind::UnknownKeyword,
+            "publish 1\ninternal: 1.2.3.4\n\npublish 2\nfoo: 1\nmethod: username\n",
+        ),
+    ] {
+        let (script_line, fault) = fault_of(rt.alloc(), HEAD, text)?;
+        assert_eq!(rt; script_line, line, "at {text}");
+        assert_eq!(rt;
+            fault,
+            ScriptKind::Conf(ConfFault { line: at, kind }),
+            "at {text}"
+        );
     }
     Ok(())
 }
@@ -107,7 +124,7 @@ fn the_other_lines(rt: HostRuntime) -> Result<(), Fail> {
         (8, "open 1 1 10.0.0.5:5000 127.0.0.1:1080\n"),
         (8, "open 2 2 10.0.0.5:5000 127.0.0.1:1080\n"),
         (8, "open 1 2 10.0.0.5:5000  127.0.0.1:1080\n"),
-        (8, "open 1 2 [::1]:5000 127.0.0.1:1080\n"),
+        (8, "open 1 2 ::1:5000 127.0.0.1:1080\n"),
         (8, "open 1 2 10.0.0.5:05000 127.0.0.1:1080\n"),
         (8, "turn 1 2\n"),
         (8, "turn 2 1\n"),
@@ -133,7 +150,7 @@ fn the_other_lines(rt: HostRuntime) -> Result<(), Fail> {
         (9, "targetend 1\ntargetend 1\n"),
         (8, "target 1 00\n"),
         (8, "dial 1 host\n"),
-        (8, "dial 1 up [::1]:1\n"),
+        (8, "dial 1 up [::1]\n"),
         (9, "dial 1 refused\ndial 1 up 1.2.3.4:1\n"),
     ] {
         let (at, kind) = fault_of(rt.alloc(), RULES, text)?;
@@ -161,6 +178,7 @@ fn form(line: &ScriptLine) -> u32 {
     match line {
         ScriptLine::Publish(config) => match config.socks.as_slice() {
             [first, second] if first.pass && !second.pass => 1,
+            [] if config.routes.len() == 1 => 11,
             _ => 0,
         },
         ScriptLine::See(1) => 2,
@@ -179,17 +197,17 @@ fn form(line: &ScriptLine) -> u32 {
 #[test]
 fn every_form(rt: HostRuntime) -> Result<(), Fail> {
     let text =
-        "sockd-script 1\n# a script\n\npublish 4\ninternal: 127.0.0.1 port = 1080\nclient pass { from: 0/0 to: 0/0 }\nsocks pass { from: 0.0.0.0/0 to: 10.0.0.0/8 }\nsocks block { from: 1.2.3.4 to: 0/0 }\nsee 1\n#see 2\nopen 1 1 10.0.0.5:5000 127.0.0.1:1080\nclient 1 47aB\nclientend 1\ntargetend 1\nopen 1 2 10.0.0.5:5000 127.0.0.1:1080\ndial 1 refused\ndial 2 up 192.0.2.9:40000\nturn 1 2";
+        "sockd-script 1\n# a script\n\npublish 4\ninternal: 127.0.0.1 port = 1080\nclient pass { from: 0/0 to: 0/0 }\nsocks pass { from: 0.0.0.0/0 to: 10.0.0.0/8 }\nsocks block { from: 1.2.3.4 to: 0/0 }\nsee 1\n#see 2\nopen 1 1 10.0.0.5:5000 127.0.0.1:1080\nclient 1 47aB\nclientend 1\ntargetend 1\nopen 1 2 [2001:db8::5]:5000 [::1]:1080\ndial 1 refused\ndial 2 up [2001:db8::9]:40000\nturn 1 2\npublish 3\ninternal: ::1\nroute { to: .example\nvia: direct }";
     match read_script(rt.alloc(), text.as_bytes()) {
         Err(fault) => assert_eq!(rt; fault.line, 0, "a script that is served was refused"),
         Ok(lines) => {
             let mut number = 0u32;
             for line in lines.as_slice() {
-                assert!(rt; number < 10);
+                assert!(rt; number < 11);
                 number += 1;
                 assert_eq!(rt; form(line), number);
             }
-            assert_eq!(rt; number, 10);
+            assert_eq!(rt; number, 11);
         }
     }
     Ok(())

@@ -1,5 +1,5 @@
 -- What the front of a file says of the whole of it.
-use Rattle.std.proofs.Common.{◌≡◌, ◌≢◌, ◌<◌, ◌≤◌, ◌+◌, ◌⊎◌, ℕ, List, take, length, min, Option, Some, None, Ok, Err, inl, inr, sym, ap, subst, ◌∙◌, refl, arith, option_map}
+use Rattle.std.proofs.Common.{◌≡◌, ◌≢◌, ◌<◌, ◌≤◌, ◌+◌, ◌⊎◌, ℕ, List, take, length, Option, Some, None, Err, inl, inr, sym, ap, subst, ◌∙◌, refl, arith, option_map}
 use Rattle.std.proofs.lemmas.Bool.{cases_lt}
 use Rattle.std.proofs.lemmas.List.{length-take, take_all}
 use Rattle.conf_text.specs.declared.fault.TextFault.{TextFault}
@@ -7,9 +7,9 @@ use Rattle.conf_text.specs.Statements.{Faulty, longest}
 use Rattle.conf_model.specs.declared.config.Config.{Config}
 use Rattle.conf_model.specs.declared.fault.ConfFault.{ConfFault}
 use Rattle.conf_model.specs.declared.fault.ConfKind.{ConfKind}
-use Rattle.conf_model.specs.Reads.{HasFault, IsConfigText, IsTextFault, Says, line_of}
+use Rattle.conf_model.specs.Reads.{HasFault, IsConfigText, IsTextFault, Says}
 use Rattle.net_ends.specs.Stores.{Files}
-use Rattle.sockd_main.specs.ConfFile.{HoldsFile, IsConfigFile, IsFaultyFile}
+use Rattle.sockd_main.specs.ConfFile.{IsConfigFile, IsFaultyFile}
 
 -- the front of a file, one byte longer than a configuration may be
 abbrev front : List ℕ → List ℕ

@@ -1,5 +1,5 @@
 -- A script that has a fault is refused with it, unless a fault of the streams or want of memory comes first.
-use Rattle.std.proofs.Common.{◌≡◌, ◌≢◌, ◌<◌, ◌+◌, ◌⊎◌, ℕ, List, ◌∷◌, [], ◌++◌, Option, Some, length, codes, decimal, inl, inr, sym, ap, subst, ◌∙◌, refl, arith, append_assoc, length-append}
+use Rattle.std.proofs.Common.{◌≡◌, ◌≢◌, ◌<◌, ◌+◌, ◌⊎◌, ℕ, List, ◌++◌, Option, Some, length, codes, decimal, inl, inr, sym, ap, subst, ◌∙◌, refl, arith, append_assoc, length-append}
 use Rattle.std.proofs.lemmas.List.{append_cancel_left}
 use Rattle.std.specs.declared.alloc.Global.{Global}
 use Rattle.std.specs.declared.string.String.{String}
@@ -10,8 +10,9 @@ use Rattle.replay_script.specs.Script.{Faulty, longest}
 use Rattle.replay_script.proofs.Deciding.{script_faultless, one_fault}
 use Rattle.sockd_main.specs.declared.end.End.{End}
 use Rattle.sockd_main.specs.Whole.{Gave, HasEnded, IsFront}
-use Rattle.sockd_main.specs.Quick.{Ends, OnQuick, OnReplay, OnRun, SinkEnd, SourceEnd, IsEnough, IsFaulty, Prints, fault_text, kind_text, source, status_of}
-use Rattle.sockd_main.specs.Words.{AreCheckWords, IsReplayWord}
+use Rattle.sockd_main.specs.Quick.{Ends, OnAsked, OnQuick, OnReplay, OnRun, SinkEnd, SourceEnd, IsEnough, IsFaulty, Prints, fault_text, kind_text, status_of}
+use Rattle.command_line.specs.Words.{Wanted}
+use Rattle.sockd_main.specs.Words.{asked_by}
 
 -- ---- what the source gave
 
@@ -64,10 +65,6 @@ same_fault old new from to all fault other is_from is_to whole faulty known h (i
 
 -- ---- how such a run ends
 
--- `check` and a file aren't `replay` alone
-two_words : (words : List (String Global)) (name : List ℕ) → IsReplayWord words → AreCheckWords words name → ⊥
-two_words words name replay check = let e : codes "replay" ∷ [] ≡ codes "check" ∷ name ∷ [] = sym replay ∙ check.are in absurd (cc)
-
 refuses : (old new : Ends) (before now : SinkEnd) (from to : SourceTold) (all : List ℕ) (fault : ScriptFault) (end : End)
     → old.input.told ≡ Some from → new.input.told ≡ Some to → to.whole ≡ from.given ++ all → Faulty all fault.line fault.kind → fault.kind ≢ ScriptKind.Memory
     → OnReplay old new end → Prints before now (fault_text end)
@@ -87,20 +84,20 @@ refuses old new before now from to all fault End.StoreFault is_from is_to whole 
 refuses old new before now from to all fault End.Memory is_from is_to whole faulty known h p = inr (inr refl)
 
 refuses_run : (words : List (String Global)) (old new : Ends) (before now : SinkEnd) (from to : SourceTold) (all : List ℕ) (fault : ScriptFault) (end : End)
-    → IsReplayWord words → old.input.told ≡ Some from → new.input.told ≡ Some to → to.whole ≡ from.given ++ all → Faulty all fault.line fault.kind → fault.kind ≢ ScriptKind.Memory
+    → asked_by words ≡ Some Wanted.Replay → old.input.told ≡ Some from → new.input.told ≡ Some to → to.whole ≡ from.given ++ all → Faulty all fault.line fault.kind → fault.kind ≢ ScriptKind.Memory
     → OnRun words old new end → Prints before now (fault_text end)
     → ((status_of end ≡ 1) × Prints before now (fault_text (End.Script fault))) ⊎ ((status_of end ≡ 3) ⊎ (status_of end ≡ 4))
-refuses_run words old new before now from to all fault end is_replay is_from is_to whole faulty known (inl r) p =
-    refuses old new before now from to all fault end is_from is_to whole faulty known r.ended p
-refuses_run words old new before now from to all fault end is_replay is_from is_to whole faulty known (inr (inl c)) p = absurd (two_words words c.name is_replay c.asked)
-refuses_run words old new before now from to all fault end is_replay is_from is_to whole faulty known (inr (inr n)) p = absurd (n.asked.no_replay is_replay)
+refuses_run words old new before now from to all fault end replays is_from is_to whole faulty known (inl r) p =
+    let replayed : OnAsked (Some Wanted.Replay) old new end = subst (λ (asked : Option Wanted). OnAsked asked old new end) replays r in
+    refuses old new before now from to all fault end is_from is_to whole faulty known replayed.ended p
+refuses_run words old new before now from to all fault end replays is_from is_to whole faulty known (inr m) p = inr (inr (ap status_of m.memory))
 
 -- The status of a replay is 1 and the fault is printed, where all that the input has to give has this fault, unless a count of
 -- faults rose or memory was refused.
 pub refused_exactly : (words : List (String Global)) (old new : Ends) (before now : SinkEnd) (status : ℕ) (from to : SourceTold) (all : List ℕ) (fault : ScriptFault)
-    → OnQuick words old new before now status → IsReplayWord words → old.input.told ≡ Some from → new.input.told ≡ Some to → to.whole ≡ from.given ++ all
+    → OnQuick words old new before now status → asked_by words ≡ Some Wanted.Replay → old.input.told ≡ Some from → new.input.told ≡ Some to → to.whole ≡ from.given ++ all
     → Faulty all fault.line fault.kind → fault.kind ≢ ScriptKind.Memory
     → ((status ≡ 1) × Prints before now (fault_text (End.Script fault))) ⊎ ((status ≡ 3) ⊎ (status ≡ 4))
-refused_exactly words old new before now status from to all fault q is_replay is_from is_to whole faulty known =
+refused_exactly words old new before now status from to all fault q replays is_from is_to whole faulty known =
     subst (λ (z : ℕ). ((z ≡ 1) × Prints before now (fault_text (End.Script fault))) ⊎ ((z ≡ 3) ⊎ (z ≡ 4))) (sym q.status_is)
-    (refuses_run words old new before now from to all fault q.end is_replay is_from is_to whole faulty known q.ran q.printed)
+    (refuses_run words old new before now from to all fault q.end replays is_from is_to whole faulty known q.ran q.printed)

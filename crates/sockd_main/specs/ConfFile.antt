@@ -3,6 +3,7 @@ use Rattle.std.specs.Prelude.{◌≡◌, ◌≢◌, ℕ, Option, Some, List}
 use Rattle.conf_model.specs.declared.config.Config.{Config}
 use Rattle.conf_model.specs.declared.fault.ConfFault.{ConfFault}
 use Rattle.conf_model.specs.declared.fault.ConfKind.{ConfKind}
+use Rattle.conf_model.specs.Kept.{IsConfig}
 use Rattle.conf_model.specs.Reads.{HasFault, IsConfigText}
 use Rattle.net_ends.specs.Counts.{Rose}
 use Rattle.net_ends.specs.Stores.{Files}
@@ -30,3 +31,8 @@ OnConfRead told name before now (ConfRead.Read config) = IsConfigFile told name 
 OnConfRead told name before now (ConfRead.Refused fault) = IsFaultyFile told name fault
 OnConfRead told name before now ConfRead.Failed = Rose before now
 OnConfRead told name before now ConfRead.Memory = Unit {0}
+
+-- a configuration that was read keeps the limits of one
+abbrev pub IsKept : ConfRead → Type 0
+IsKept (ConfRead.Read config) = IsConfig config
+IsKept _ = Unit {0}

@@ -1,11 +1,15 @@
 -- What one run of the program does, by how it ends.
-use Rattle.std.specs.Prelude.{◌≡◌, ◌≢◌, ◌<◌, ◌⊎◌, ℕ, Bool, Option, List, [], ◌∷◌, ◌++◌, length, codes, decimal}
+use Rattle.std.specs.Prelude.{◌≡◌, ◌≢◌, ◌<◌, ◌⊎◌, ℕ, Bool, Option, Some, None, List, [], ◌++◌, length, codes, decimal}
 use mathlib.Core.List.{IsPrefix}
 use Rattle.std.specs.declared.alloc.Global.{Global}
 use Rattle.std.specs.declared.string.String.{String}
+use Rattle.addr_pattern.specs.declared.endpoint.Endpoint.{Endpoint}
+use Rattle.command_line.specs.Words.{Wanted}
 use Rattle.conf_text.specs.declared.fault.TextFault.{TextFault}
 use Rattle.conf_model.specs.declared.config.Config.{Config}
+use Rattle.conf_model.specs.declared.fault.ConfFault.{ConfFault}
 use Rattle.conf_model.specs.declared.fault.ConfKind.{ConfKind}
+use Rattle.conf_model.specs.declared.protocol.Command.{Command}
 use Rattle.conf_model.specs.Canonical.{canonical_text}
 use Rattle.net_ends.specs.Counts.{Rose}
 use Rattle.net_ends.specs.Stores.{Files}
@@ -20,7 +24,9 @@ use Rattle.socks_machine.specs.Follows.{IsReplay}
 use Rattle.sockd_main.specs.declared.end.End.{End}
 use Rattle.sockd_main.specs.ConfFile.{IsConfigFile, IsFaultyFile}
 use Rattle.sockd_main.specs.Whole.{Gave, HasEnded, IsFront, Wrote}
-use Rattle.sockd_main.specs.Words.{AreCheckWords, IsNoCommand, IsReplayWord}
+use Rattle.verdict_text.specs.declared.question.Question.{Question}
+use Rattle.verdict_text.specs.Decisions.{decision_text}
+use Rattle.sockd_main.specs.Words.{asked_by}
 
 -- ---- the ends of a run: what each tells, and how often it failed
 
@@ -106,48 +112,62 @@ OnReplay old new End.OutputFault = (transcript : List ℕ) × HasTranscript old.
 OnReplay old new End.Memory = IsUnwritten old.out new.out
 OnReplay old new _ = ⊥
 
--- ---- `check FILE`
+-- ---- `check FILE` and `decide FILE FROM TO CMD`
 
-abbrev pub OnCheck : List ℕ → Ends → Ends → End → Type 0
-OnCheck name old new End.Done = (config : Config) × IsConfigFile old.files.files name config × IsWritten (canonical_text config) old.out new.out
-OnCheck name old new (End.Conf fault) = IsFaultyFile old.files.files name fault × IsUnwritten old.out new.out
-OnCheck name old new End.OutputFault = (config : Config) × IsConfigFile old.files.files name config × IsCutOff (canonical_text config) old.out new.out
-OnCheck name old new End.StoreFault = Rose old.files.faults new.files.faults × IsUnwritten old.out new.out
-OnCheck name old new End.Memory = IsUnwritten old.out new.out
-OnCheck name old new _ = ⊥
+-- a text of the file's configuration is written
+abbrev pub OnText : (Config → List ℕ) → List ℕ → Ends → Ends → End → Type 0
+OnText text name old new End.Done = (config : Config) × IsConfigFile old.files.files name config × IsWritten (text config) old.out new.out
+OnText text name old new (End.Conf fault) = IsFaultyFile old.files.files name fault × IsUnwritten old.out new.out
+OnText text name old new End.OutputFault = (config : Config) × IsConfigFile old.files.files name config × IsCutOff (text config) old.out new.out
+OnText text name old new End.StoreFault = Rose old.files.faults new.files.faults × IsUnwritten old.out new.out
+OnText text name old new End.Memory = IsUnwritten old.out new.out
+OnText text name old new _ = ⊥
 
 -- ---- the whole
 
 -- a replay touches no file
-pub record HasReplayed (words : List (String Global)) (old new : Ends) (end : End) : Type 0 where
-  pub asked : IsReplayWord words
+pub record HasReplayed (old new : Ends) (end : End) : Type 0 where
   pub ended : OnReplay old new end
   pub same_files : new.files ≡ old.files
 
--- a check reads no input, and changes no file
-pub record HasChecked (words : List (String Global)) (old new : Ends) (end : End) : Type 0 where
-  pub name : List ℕ
-  pub asked : AreCheckWords words name
-  pub ended : OnCheck name old new end
+-- a text of a file's configuration reads no input, and changes no file
+pub record HasShown (text : Config → List ℕ) (name : List ℕ) (old new : Ends) (end : End) : Type 0 where
+  pub ended : OnText text name old new end
   pub same_input : new.input ≡ old.input
   pub same_files : new.files.files ≡ old.files.files
 
-pub record HasRefusedWords (words : List (String Global)) (old new : Ends) (end : End) : Type 0 where
-  pub asked : IsNoCommand words
+pub record HasRefusedWords (old new : Ends) (end : End) : Type 0 where
   pub usage : end ≡ End.Usage
   pub same : new ≡ old
 
+-- memory was refused before the words were read
+pub record HasGivenUp (old new : Ends) (end : End) : Type 0 where
+  pub memory : end ≡ End.Memory
+  pub same : new ≡ old
+
+abbrev pub question : Endpoint → Endpoint → Option (List ℕ) → Command → Question
+question from to name command = record { from = from; to = to; name = name; command = command }
+
+-- what a configuration decides on a question, or its canonical text where nothing is asked
+abbrev pub text_by : Option Question → Config → List ℕ
+text_by None = canonical_text
+text_by (Some q) = λ config. decision_text config q
+
+abbrev pub OnWanted : Wanted → Ends → Ends → End → Type 0
+OnWanted Wanted.Replay old new end = HasReplayed old new end
+OnWanted (Wanted.Check file) old new end = HasShown (text_by None) file old new end
+OnWanted (Wanted.Decide file from to name command) old new end = HasShown (text_by (Some (question from to name command))) file old new end
+
+-- words that fit no command are refused
+abbrev pub OnAsked : Option Wanted → Ends → Ends → End → Type 0
+OnAsked None old new end = HasRefusedWords old new end
+OnAsked (Some wanted) old new end = OnWanted wanted old new end
+
 -- the words decide what is run
 abbrev pub OnRun : List (String Global) → Ends → Ends → End → Type 0
-OnRun words old new end = HasReplayed words old new end ⊎ (HasChecked words old new end ⊎ HasRefusedWords words old new end)
+OnRun words old new end = OnAsked (asked_by words) old new end ⊎ HasGivenUp old new end
 
 -- ---- what is reported
-
-abbrev pub kind_text : ScriptKind → List ℕ
-kind_text ScriptKind.Length = codes "length"
-kind_text ScriptKind.Header = codes "header"
-kind_text ScriptKind.NotBuilt = codes "not built"
-kind_text ScriptKind.Memory = codes "memory"
 
 abbrev pub text_fault_text : TextFault → List ℕ
 text_fault_text (TextFault.NotAscii line) = codes "not ascii"
@@ -170,9 +190,19 @@ conf_kind_text ConfKind.TooMany = codes "too many"
 conf_kind_text (ConfKind.Text fault) = text_fault_text fault
 conf_kind_text ConfKind.Memory = codes "memory"
 
+abbrev pub conf_fault_text : ConfFault → List ℕ
+conf_fault_text fault = codes "conf line " ++ (decimal fault.line ++ (codes ": " ++ conf_kind_text fault.kind))
+
+abbrev pub kind_text : ScriptKind → List ℕ
+kind_text ScriptKind.Length = codes "length"
+kind_text ScriptKind.Header = codes "header"
+kind_text (ScriptKind.Conf fault) = conf_fault_text fault
+kind_text ScriptKind.NotBuilt = codes "not built"
+kind_text ScriptKind.Memory = codes "memory"
+
 abbrev pub fault_text : End → List ℕ
 fault_text End.Done = []
-fault_text (End.Conf fault) = codes "sockd: conf line " ++ (decimal fault.line ++ (codes ": " ++ (conf_kind_text fault.kind ++ codes "\n")))
+fault_text (End.Conf fault) = codes "sockd: " ++ (conf_fault_text fault ++ codes "\n")
 fault_text (End.Script fault) = codes "sockd: script line " ++ (decimal fault.line ++ (codes ": " ++ (kind_text fault.kind ++ codes "\n")))
 fault_text End.Usage = codes "sockd: usage\n"
 fault_text End.InputFault = codes "sockd: fault input\n"
@@ -205,6 +235,7 @@ pub record OnQuick (words : List (String Global)) (old new : Ends) (before now :
 abbrev pub end_of : ScriptFault → ScriptKind → End
 end_of fault ScriptKind.Length = End.Script fault
 end_of fault ScriptKind.Header = End.Script fault
+end_of fault (ScriptKind.Conf refused) = End.Script fault
 end_of fault ScriptKind.NotBuilt = End.Script fault
 end_of fault ScriptKind.Memory = End.Memory
 

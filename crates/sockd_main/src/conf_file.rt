@@ -1,6 +1,6 @@
 //! Configurations from files.
 ghost use Rattle.std.specs.Prelude.{◌≡◌, ◌≤◌};
-ghost use Rattle.sockd_main.specs.ConfFile.{OnConfRead};
+ghost use Rattle.sockd_main.specs.ConfFile.{IsKept, OnConfRead};
 
 use conf_model::{ConfFault, ConfKind, Config};
 use net_ends::{Store, Stored};
@@ -23,6 +23,7 @@ pub enum ConfRead {
 /// Reads a file as a configuration.
 pub fn read_conf<F: Store>(alloc: Global, files: &mut F, name: &str) -> ConfRead
     ensures found { OnConfRead (F.files files.old) name.now (F.faults files.old) (F.faults files.new) result }
+    ensures config { IsKept result }
     ensures kept { F.files files.new ≡ F.files files.old }
     ensures later { F.faults files.old ≤ F.faults files.new }
 {

@@ -11,7 +11,6 @@ mod report;
 mod run;
 mod standard;
 mod whole;
-mod words;
 
 use end::End;
 use no_caller::NoCaller;

@@ -1,5 +1,5 @@
-ghost use Rattle.std.specs.Prelude.{◌≡◌, []};
-ghost use Rattle.sockd_main.specs.Quick.{Prints, sink, fault_text as fault_words, conf_kind_text as conf_kind_words, kind_text as kind_words};
+ghost use Rattle.std.specs.Prelude.{◌≡◌, ◌≤◌, ◌+◌, ◌++◌, [], length};
+ghost use Rattle.sockd_main.specs.Quick.{Prints, sink, fault_text as fault_words, conf_fault_text as conf_fault_words, conf_kind_text as conf_kind_words, kind_text as kind_words};
 
 use crate::end::End;
 use crate::whole::write_all;
@@ -10,19 +10,9 @@ use itoa::Buffer;
 use net_ends::Sink;
 use replay_script::{ScriptFault, ScriptKind};
 
-fn kind_text(kind: ScriptKind) -> &'static str
-    ensures { result.now ≡ kind_words kind }
-{
-    match kind {
-        ScriptKind::Length => "length",
-        ScriptKind::Header => "header",
-        ScriptKind::NotBuilt => "not built",
-        ScriptKind::Memory => "memory",
-    }
-}
-
 fn conf_kind_text(kind: ConfKind) -> &'static str
-    ensures { result.now ≡ conf_kind_words kind }
+    ensures text { result.now ≡ conf_kind_words kind }
+    ensures short { length result.now ≤ 21 }
 {
     match kind {
         ConfKind::UnknownKeyword => "unknown keyword",
@@ -44,18 +34,41 @@ fn conf_kind_text(kind: ConfKind) -> &'static str
 }
 
 fn add_conf_fault(text: &mut Short, fault: ConfFault)
-    requires { text.old ≡ [] }
-    ensures { text.new ≡ fault_words (End.Conf fault) }
+    requires { length text.old ≤ 100 }
+    ensures text { text.new ≡ text.old ++ conf_fault_words fault }
+    ensures short { length text.new ≤ length text.old + 50 }
 {
     let mut digits = Buffer::new();
-    text.add(b"sockd: conf line ");
+    text.add(b"conf line ");
     text.add(digits.format(fault.line).as_bytes());
     text.add(b": ");
     text.add(conf_kind_text(fault.kind).as_bytes());
+}
+
+fn add_kind(text: &mut Short, kind: ScriptKind)
+    requires { length text.old ≤ 100 }
+    ensures text { text.new ≡ text.old ++ kind_words kind }
+    ensures short { length text.new ≤ length text.old + 50 }
+{
+    match kind {
+        ScriptKind::Length => text.add(b"length"),
+        ScriptKind::Header => text.add(b"header"),
+        ScriptKind::Conf(fault) => add_conf_fault(text, fault),
+        ScriptKind::NotBuilt => text.add(b"not built"),
+        ScriptKind::Memory => text.add(b"memory"),
+    }
+}
+
+fn add_conf_line(text: &mut Short, fault: ConfFault)
+    requires { text.old ≡ [] }
+    ensures { text.new ≡ fault_words (End.Conf fault) }
+{
+    text.add(b"sockd: ");
+    add_conf_fault(text, fault);
     text.add(b"\n");
 }
 
-fn add_script_fault(text: &mut Short, fault: ScriptFault)
+fn add_script_line(text: &mut Short, fault: ScriptFault)
     requires { text.old ≡ [] }
     ensures { text.new ≡ fault_words (End.Script fault) }
 {
@@ -63,7 +76,7 @@ fn add_script_fault(text: &mut Short, fault: ScriptFault)
     text.add(b"sockd: script line ");
     text.add(digits.format(fault.line).as_bytes());
     text.add(b": ");
-    text.add(kind_text(fault.kind).as_bytes());
+    add_kind(text, fault.kind);
     text.add(b"\n");
 }
 
@@ -74,8 +87,8 @@ fn fault_text(end: &End) -> Short
     let mut text = Short::empty();
     match end {
         End::Done => {}
-        End::Conf(fault) => add_conf_fault(&mut text, *fault),
-        End::Script(fault) => add_script_fault(&mut text, *fault),
+        End::Conf(fault) => add_conf_line(&mut text, *fault),
+        End::Script(fault) => add_script_line(&mut text, *fault),
         End::Usage => text.add(b"sockd: usage\n"),
         End::InputFault => text.add(b"sockd: fault input\n"),
         End::OutputFault => text.add(b"sockd: fault output\n"),

@@ -1,15 +1,20 @@
-ghost use Rattle.std.specs.Prelude.{◌≡◌};
-ghost use Rattle.sockd_main.specs.Quick.{OnCheck, OnQuick, OnReplay, OnRun, StoreEnd, SourceEnd, ends, refused_end, sink, source, store};
+ghost use Rattle.std.specs.Prelude.{◌≡◌, IfOk};
+ghost use Rattle.command_line.specs.Words.{wanted};
+ghost use Rattle.conf_model.specs.Kept.{IsConfig};
+ghost use Rattle.sockd_main.specs.Quick.{OnQuick, OnReplay, OnRun, OnText, OnWanted, StoreEnd, SourceEnd, ends, refused_end, sink, source, store, text_by};
 
 use crate::conf_file::{ConfRead, read_conf};
 use crate::end::End;
 use crate::report::report;
 use crate::whole::{Input, read_all, write_all};
-use crate::words::{checked_file, is_replay};
+use command_line::{Asked, read_words};
+use conf_model::Config;
+use conf_text::Text;
 use net_ends::{Caller, Sink, Source, Store};
 use replay_run::replay;
 use replay_script::{ScriptFault, ScriptKind, read_script};
-use std::alloc::Global;
+use std::alloc::{AllocError, Global};
+use verdict_text::{Question, decide};
 
 /// The most bytes that a script may have.
 const LONGEST: usize = 67_108_864;
@@ -54,9 +59,26 @@ fn run_replay<I: Source, O: Sink>(alloc: Global, input: &mut I, out: &mut O) -> 
     }
 }
 
-/// Reads a file as a configuration, and writes its canonical text.
-fn run_check<F: Store, O: Sink>(alloc: Global, name: &str, files: &mut F, out: &mut O) -> End
-    ensures ended { (input : SourceEnd) → OnCheck name.now
+/// What a configuration decides on a question, or its canonical text where nothing is asked.
+fn text_of(alloc: Global, config: &Config, question: &Option<Question>) -> Result<Text, AllocError>
+    requires { IsConfig config.now }
+    ensures { IfOk result (λ text. text ≡ text_by question.now config.now) }
+{
+    match question {
+        None => config.write(alloc),
+        Some(question) => decide(alloc, config, question),
+    }
+}
+
+/// Reads a file as a configuration, and writes its text.
+fn run_text<F: Store, O: Sink>(
+    alloc: Global,
+    name: &str,
+    question: &Option<Question>,
+    files: &mut F,
+    out: &mut O,
+) -> End
+    ensures ended { (input : SourceEnd) → OnText (text_by question.now) name.now
         (ends input (sink (O.told out.old) (O.faults out.old)) (store (F.files files.old) (F.faults files.old)))
         (ends input (sink (O.told out.new) (O.faults out.new)) (store (F.files files.new) (F.faults files.new))) result }
     ensures kept { F.files files.new ≡ F.files files.old }
@@ -67,13 +89,46 @@ fn run_check<F: Store, O: Sink>(alloc: Global, name: &str, files: &mut F, out: &
         ConfRead::Failed => return End::StoreFault,
         ConfRead::Memory => return End::Memory,
     };
-    let Ok(text) = config.write(alloc) else {
+    let Ok(text) = text_of(alloc, &config, question) else {
         return End::Memory;
     };
     if write_all(out, text.as_slice()) {
         End::Done
     } else {
         End::OutputFault
+    }
+}
+
+/// Does what the words ask for.
+fn run_asked<I: Source, O: Sink, F: Store>(
+    alloc: Global,
+    asked: Asked,
+    input: &mut I,
+    out: &mut O,
+    files: &mut F,
+) -> End
+    ensures { OnWanted (wanted asked.entry)
+        (ends (source (I.told input.old) (I.faults input.old)) (sink (O.told out.old) (O.faults out.old)) (store (F.files files.old) (F.faults files.old)))
+        (ends (source (I.told input.new) (I.faults input.new)) (sink (O.told out.new) (O.faults out.new)) (store (F.files files.new) (F.faults files.new))) result }
+{
+    match asked {
+        Asked::Replay => run_replay(alloc, input, out),
+        Asked::Check { file } => run_text(alloc, file, &None, files, out),
+        Asked::Decide {
+            file,
+            from,
+            to,
+            name,
+            command,
+        } => {
+            let question = Question {
+                from,
+                to,
+                name,
+                command,
+            };
+            run_text(alloc, file, &Some(question), files, out)
+        }
     }
 }
 
@@ -89,18 +144,17 @@ fn run<I: Source, O: Sink, F: Store>(
         (ends (source (I.told input.old) (I.faults input.old)) (sink (O.told out.old) (O.faults out.old)) (store (F.files files.old) (F.faults files.old)))
         (ends (source (I.told input.new) (I.faults input.new)) (sink (O.told out.new) (O.faults out.new)) (store (F.files files.new) (F.faults files.new))) result }
 {
-    if is_replay(words) {
-        return run_replay(alloc, input, out);
-    }
-    match checked_file(words) {
-        Some(name) => run_check(alloc, name, files, out),
-        None => End::Usage,
+    match read_words(alloc, words) {
+        Ok(Some(asked)) => run_asked(alloc, asked, input, out, files),
+        Ok(None) => End::Usage,
+        Err(_) => End::Memory,
     }
 }
 
 /// One run of the program. `replay` reads a script from the input and writes its transcript; `check FILE` reads a
-/// configuration from a file and writes its canonical text. It answers the status that the program ends with, and has
-/// written the fault text of that status, if any, to standard error. No command calls anybody yet.
+/// configuration from a file and writes its canonical text; `decide FILE FROM TO CMD` reads one and writes what it decides.
+/// It answers the status that the program ends with, and has written the fault text of that status, if any, to standard error.
+/// No command calls anybody yet.
 pub fn quick<I: Source, O: Sink, E: Sink, F: Store, C: Caller>(
     alloc: Global,
     words: &[String],

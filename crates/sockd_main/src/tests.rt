@@ -3,6 +3,7 @@ use net_ends::{MemCaller, MemSink, MemSource, MemStore};
 use std::alloc::Global;
 
 mod checks;
+mod decisions;
 mod failures;
 mod refusals;
 mod rows;

@@ -12,6 +12,28 @@ const OTHER_WORDS: &[&[&str]] = &[
     &["check", "office.conf", "office.conf"],
     &["check", "-f"],
     &["office.conf", "check"],
+    &["decide", "office.conf", "10.0.0.5:5000", "198.51.100.10:80"],
+    &[
+        "decide",
+        "office.conf",
+        "10.0.0.5:5000",
+        "198.51.100.10",
+        "connect",
+    ],
+    &[
+        "decide",
+        "office.conf",
+        "10.0.0.5:5000",
+        "198.51.100.10:80",
+        "join",
+    ],
+    &[
+        "decide",
+        "office.conf",
+        "10.0.0.5:5000",
+        "a@198.51.100.10:80",
+        "udpreply",
+    ],
 ];
 
 /// Whether these words are refused, with so much of the text on standard error as fits.

@@ -35,76 +35,88 @@ const HEADERS: &[&str] = &[
 
 const INTERNAL: &str = "internal: 127.0.0.1 port = 1080\n";
 
-const CLIENT: &str = "client pass { from: 0/0 to: 0/0 }\n";
+/// The lines of a configuration that isn't served: the count and its counted lines. What is wrong in them is a fault of the
+/// first.
+const UNSERVED: &[[&str; 3]] = &[
+    ["publish\n", INTERNAL, ""],
+    ["publish 01\n", INTERNAL, ""],
+    ["publish 1 \n", INTERNAL, ""],
+    ["publish 3\n", INTERNAL, "method: none\n"],
+    ["publish 18446744073709551615\n", INTERNAL, ""],
+    ["publish 18446744073709551616\n", INTERNAL, ""],
+    ["publish 2\n", INTERNAL, "method: username\n"],
+    ["publish 2\n", INTERNAL, "method: username none\n"],
+    ["publish 2\n", INTERNAL, "client pass { session.max: 4 }\n"],
+    ["publish 2\n", INTERNAL, "socks block { session.max: 0 }\n"],
+    ["publish 2\n", INTERNAL, "route { via: 192.0.2.1 }\n"],
+];
 
-const SOCKS: &str = "socks pass { from: 0/0 to: 0/0 }\n";
-
-/// The lines of a configuration: the count and three counted ones. What is wrong in them is a fault of the first.
-const CONFIGURATIONS: &[[&str; 4]] = &[
-    ["publish\n", INTERNAL, CLIENT, SOCKS],
-    ["publish 03\n", INTERNAL, CLIENT, SOCKS],
-    ["publish 3 \n", INTERNAL, CLIENT, SOCKS],
-    ["publish 1\n", INTERNAL, "", ""],
-    ["publish 4\n", INTERNAL, CLIENT, SOCKS],
-    ["publish 4099\n", INTERNAL, CLIENT, SOCKS],
-    ["publish 18446744073709551616\n", INTERNAL, CLIENT, SOCKS],
-    ["publish 3\n", CLIENT, INTERNAL, SOCKS],
+/// Counted lines that are no configuration, and the fault behind the line of the script.
+const REFUSED: &[[&str; 4]] = &[
+    ["publish 0\n", "", "", "line 0: missing internal\n"],
     [
-        "publish 3\n",
-        "internal: 127.0.0.256 port = 1080\n",
-        CLIENT,
-        SOCKS,
+        "publish 1\n",
+        "method: none\n",
+        "",
+        "line 0: missing internal\n",
     ],
     [
-        "publish 3\n",
-        "internal: 127.0.0.1 port = 0\n",
-        CLIENT,
-        SOCKS,
-    ],
-    [
-        "publish 3\n",
-        "internal: 127.0.0.1 port = 65536\n",
-        CLIENT,
-        SOCKS,
-    ],
-    ["publish 3\n", "internal: ::1 port = 1080\n", CLIENT, SOCKS],
-    [
-        "publish 3\n",
+        "publish 2\n",
         INTERNAL,
-        "client block { from: 0/0 to: 0/0 }\n",
-        SOCKS,
+        "internal: 127.0.0.256\n",
+        "line 2: bad value\n",
     ],
     [
-        "publish 3\n",
+        "publish 2\n",
+        "internal: ::1 port = 0\n",
         INTERNAL,
-        CLIENT,
-        "socks drop { from: 0/0 to: 0/0 }\n",
+        "line 1: bad value\n",
     ],
     [
-        "publish 3\n",
+        "publish 2\n",
         INTERNAL,
-        CLIENT,
-        "socks pass { from: 0/0 }\n",
+        "socks drop { to: 0/0 }\n",
+        "line 2: unknown keyword\n",
     ],
     [
-        "publish 3\n",
+        "publish 2\n",
         INTERNAL,
-        CLIENT,
-        "socks pass { from: 0/0 to: 10.0.0/8 }\n",
+        "method: gssapi\n",
+        "line 2: gssapi refused\n",
     ],
     [
-        "publish 3\n",
+        "publish 2\n",
         INTERNAL,
-        CLIENT,
-        "socks pass { from: 0/0 to: 10.0.0.1/8 }\n",
+        "method: pam\n",
+        "line 2: pam refused\n",
     ],
     [
-        "publish 3\n",
+        "publish 2\n",
         INTERNAL,
-        CLIENT,
-        "socks pass { from: 0/0 to: 10.0.0.0/33 }\n",
+        "method: foo\n",
+        "line 2: method refused\n",
     ],
-    ["publish 3\n", INTERNAL, CLIENT, "\n"],
+    [
+        "publish 2\n",
+        INTERNAL,
+        "external: eth0\n",
+        "line 2: interface refused\n",
+    ],
+    [
+        "publish 2\n",
+        INTERNAL,
+        "control: 10.0.0.1 port = 9\n",
+        "line 2: control not loopback\n",
+    ],
+    ["publish 2\n", INTERNAL, "turn 1 1\n", "line 2: no colon\n"],
+    [
+        "publish 2\n",
+        INTERNAL,
+        "route {\n",
+        "line 2: unclosed block\n",
+    ],
+    ["publish 2\n", INTERNAL, "}\n", "line 2: stray brace\n"],
+    ["publish 2\n", INTERNAL, "\u{7f}\n", "line 2: not ascii\n"],
 ];
 
 /// Lines behind an open association that are bad by themselves, or break their condition there.
@@ -126,7 +138,7 @@ const LINES: &[&str] = &[
     "open 1 2 10.0.0.256:5000 127.0.0.1:1080\n",
     "open 1 2 10.0.0.5:65536 127.0.0.1:1080\n",
     "open 1 2 10.0.0.5:05000 127.0.0.1:1080\n",
-    "open 1 2 [::1]:5000 127.0.0.1:1080\n",
+    "open 1 2 ::1:5000 127.0.0.1:1080\n",
     "client 2 47\n",
     "client 1 \n",
     "client 1 4\n",
@@ -143,7 +155,7 @@ const LINES: &[&str] = &[
     "target 1 00\n",
     "dial 2 refused\n",
     "dial 1 host\n",
-    "dial 1 up [::1]:1\n",
+    "dial 1 up [::1]\n",
     "dial 1 up\n",
     "now 1\n",
 ];
@@ -156,10 +168,14 @@ const ORDERS: &[(&[&str], &str)] = &[
         &[FIRST, "#\n\nclient 1 47\n"],
         "sockd: script line 4: not built\n",
     ),
-    (&[PUBLISHED, SOCKS], "sockd: script line 6: not built\n"),
+    (&[PUBLISHED, INTERNAL], "sockd: script line 6: not built\n"),
     (
-        &[PUBLISHED, "publish 2\n", INTERNAL, CLIENT],
+        &[PUBLISHED, "publish 2\n", INTERNAL, "method: username\n"],
         "sockd: script line 6: not built\n",
+    ),
+    (
+        &[PUBLISHED, "publish 2\n", INTERNAL, "method: gssapi\n"],
+        "sockd: script line 6: conf line 2: gssapi refused\n",
     ),
     (
         &[PUBLISHED, OPEN, "turn 1 1\n"],
@@ -201,6 +217,13 @@ fn is_refused(alloc: Global, parts: &[&str], error: &str) -> bool {
     replays(alloc, parts, NO_TROUBLE, 1, b"", error)
 }
 
+/// Whether the configuration at line 2 of a script is refused with this fault.
+fn is_refused_as(alloc: Global, parts: &[&str], fault: &str) -> Option<bool> {
+    let mut error = String::from_str(alloc, "sockd: script line 2: conf ").ok()?;
+    error.push_str(fault).ok()?;
+    Some(is_refused(alloc, parts, error.as_str()))
+}
+
 #[test]
 fn headers(rt: HostRuntime) {
     for text in HEADERS {
@@ -210,12 +233,23 @@ fn headers(rt: HostRuntime) {
 }
 
 #[test]
-fn configurations(rt: HostRuntime) {
-    for [count, first, second, third] in CONFIGURATIONS {
-        let parts = [FIRST, *count, *first, *second, *third];
+fn unserved_configurations(rt: HostRuntime) {
+    for [count, first, second] in UNSERVED {
+        let parts = [FIRST, *count, *first, *second];
         assert!(rt;
             is_refused(rt.alloc(), &parts, AT_2),
-            "at {count}{first}{second}{third}"
+            "at {count}{first}{second}"
+        );
+    }
+}
+
+#[test]
+fn refused_configurations(rt: HostRuntime) {
+    for [count, first, second, fault] in REFUSED {
+        let parts = [FIRST, *count, *first, *second];
+        assert!(rt;
+            is_refused_as(rt.alloc(), &parts, fault) == Some(true),
+            "at {count}{first}{second}"
         );
     }
 }

@@ -274,6 +274,120 @@ target 3 -
 end 3 open
 ";
 
+/// A client rule blocks: nothing is said to the client.
+const CLIENT_BLOCKED: &str = "\
+sockd-script 1
+publish 4
+internal: 127.0.0.1 port = 1080
+client block { from: 10.0.0.0/8 to: 0/0 }
+client pass { from: 0/0 to: 0/0 }
+socks pass { from: 0/0 to: 0/0 }
+see 1
+open 1 1 10.0.0.5:5000 127.0.0.1:1080
+client 1 050100
+turn 1 1
+";
+
+const CLIENT_BLOCKED_TRANSCRIPT: &str = "\
+publish 1
+see 1 1
+open 1 1
+turn 1 1 gen 1 took 0 0 sent 0 0 done clientblocked gen 1 client 1
+close
+see 1 1
+client 1 -
+target 1 -
+end 1 clientblocked gen 1 client 1
+";
+
+/// Both are opened in the first generation. The second request is judged behind a see of the second one, which blocks.
+const GENERATIONS: &str = "\
+open 1 1 10.0.0.5:5000 127.0.0.1:1080
+open 1 2 10.0.0.6:5000 127.0.0.1:1080
+dial 1 up 192.0.2.9:40000
+turn 1 1
+turn 1 2
+client 1 05010005010001C633640A0050
+client 2 05010005010001C633640A0050
+publish 5
+internal: 127.0.0.1 port = 1080
+timeout.io: 1
+timeout.negotiate: 0
+client pass { }
+socks block { to: 198.51.100.10 port = http command: connect bind }
+turn 1 1
+see 1
+turn 1 2
+turn 1 1
+publish 1
+internal: ::1
+";
+
+const GENERATIONS_TRANSCRIPT: &str = "\
+publish 1
+see 1 1
+open 1 1
+open 1 2
+turn 1 1 gen 1 took 0 0 sent 0 0 again
+turn 1 2 gen 1 took 0 0 sent 0 0 again
+publish 2
+turn 1 1 gen 1 took 13 0 sent 2 0 again
+see 1 2
+turn 1 2 gen 2 took 13 0 sent 12 0 again
+turn 1 1 gen 2 took 0 0 sent 10 0 again
+publish 3
+close
+see 1 3
+turn 1 1 gen 3 took 0 0 sent 0 0 wait
+turn 1 2 gen 3 took 0 0 sent 0 0 done denied gen 2 client 1 socks 1
+turn 1 1 gen 3 took 0 0 sent 0 0 wait
+client 1 050005000001c00002099c40
+target 1 -
+end 1 open
+client 2 050005020001000000000000
+target 2 -
+end 2 denied gen 2 client 1 socks 1
+";
+
+/// Endpoints of IPv6, a route that leads to the destination itself, and a rule by a name that matches no address.
+const IPV6: &str = "\
+sockd-script 1
+publish 9
+# over several lines
+internal: ::1 port = 1080
+client pass { from: 2001:db8::/32 to: ::1 port = 1080 }
+socks block { to: .example.com }
+socks pass {
+    from: 2001:db8::/32
+    protocol: tcp
+}
+route { to: 198.51.100.0/24 via: direct }
+see 1
+open 1 1 [2001:db8::5]:5000 [::1]:1080
+dial 1 up [2001:db8::9]:40000
+turn 1 1
+client 1 05010005010001C633640A0050
+turn 1 1
+turn 1 1
+clientend 1
+targetend 1
+";
+
+const IPV6_TRANSCRIPT: &str = "\
+publish 1
+see 1 1
+open 1 1
+turn 1 1 gen 1 took 0 0 sent 0 0 again
+turn 1 1 gen 1 took 13 0 sent 2 0 again
+turn 1 1 gen 1 took 0 0 sent 22 0 again
+close
+see 1 1
+turn 1 1 gen 1 took 0 0 sent 0 0 done finished
+client 1 05000500000420010db80000000000000000000000099c40
+target 1 -
+end 1 finished
+";
+
 #[test]
 fn transcripts(rt: HostRuntime) {
     for (head, body, transcript) in [
@@ -285,6 +399,9 @@ fn transcripts(rt: HostRuntime) {
         (PASSES, FIRST_BYTE, FIRST_BYTE_TRANSCRIPT),
         ("", BLOCKED_BEFORE, BLOCKED_BEFORE_TRANSCRIPT),
         (PASSES, SEVERAL, SEVERAL_TRANSCRIPT),
+        ("", CLIENT_BLOCKED, CLIENT_BLOCKED_TRANSCRIPT),
+        (PASSES, GENERATIONS, GENERATIONS_TRANSCRIPT),
+        ("", IPV6, IPV6_TRANSCRIPT),
         ("sockd-script 1", "", "close\n"),
     ] {
         let script = [head, body];

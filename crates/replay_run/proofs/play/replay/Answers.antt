@@ -1,4 +1,4 @@
-use Rattle.std.proofs.Common.{◌∙◌, sym, ap, subst, List, [], None}
+use Rattle.std.proofs.Common.{◌∙◌, sym, ap, subst, List, []}
 use Rattle.socks_machine.specs.declared.script.ScriptLine.{ScriptLine}
 use Rattle.socks_machine.specs.declared.world.World.{World}
 use Rattle.socks_machine.specs.Follows.{IsReplay, opens_of}
@@ -11,7 +11,7 @@ play-requires-clause-served c = subst IsServed (sym c.as_slice-2.ensures) c.requ
 
 pub play-requires-clause-first : goal.play-requires-clause-first
 play-requires-clause-first c =
-    subst (λ (ls : List ScriptLine). IsBehind ls [] start None c.in_ok-replay.replay) (sym c.as_slice-2.ensures)
+    subst (λ (ls : List ScriptLine). IsBehind ls [] start c.in_ok-replay.replay) (sym c.as_slice-2.ensures)
     (c.in_ok-replay.ensures c.args.script.now c.requires.served (c.opens_of.ensures ∙ ap opens_of c.as_slice.ensures))
 
 pub returns-in-Ok : goal.returns-in-Ok

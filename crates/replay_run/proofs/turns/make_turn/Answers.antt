@@ -1,5 +1,8 @@
-use Rattle.std.proofs.Common.{◌≡◌, ◌∙◌, sym, Option, Some, None, is_some, false}
+use Rattle.std.proofs.Common.{◌≡◌, ◌∙◌, sym, subst, Option, Some, None, is_some, false}
+use Rattle.conf_model.specs.declared.config.Config.{Config}
+use Rattle.rule_list.specs.Numbers.{FitsNumbers}
 use Rattle.socks_machine.specs.declared.cause.StopBy.{StopBy}
+use Rattle.replay_run.specs.Taken.{MakesTurn}
 use Rattle.replay_run.proofs.turns.make_turn.Goals as goal
 
 unset : (mark : Option StopBy) → is_some mark ≡ false → mark ≡ None
@@ -7,8 +10,13 @@ unset None h = cc
 unset (Some by) h = cc
 
 pub returns : goal.returns
-returns c = record {
-  cap = c.in_ok-next.ensures.cap;
-  mark = sym c.mark.ensures ∙ unset c.mark.result (sym c.is_some.ensures ∙ c.if-is_some.false);
-  turns = c.in_ok-next.ensures.turns;
-}
+returns c =
+    subst (λ (k : Config). MakesTurn c.args.snap.now.number k c.args.desk.now c.turn.new.desk c.args.assoc c.args.net.now c.in_ok-next.next c.turn.new.net) c.deref.ensures
+    (record {
+      cap = c.in_ok-next.ensures.cap;
+      mark = sym c.mark.ensures ∙ unset c.mark.result (sym c.is_some.ensures ∙ c.if-is_some.false);
+      turns = c.in_ok-next.ensures.turns;
+    })
+
+pub turn-requires : goal.turn-requires
+turn-requires c = subst FitsNumbers (sym c.deref.ensures) c.requires

@@ -12,18 +12,18 @@ returns-in_default-cut c = λ n peer at h.
     let h2 = peel_number 32 largest _ _ _ _ refl (omega arith) a h1 in
     cut_none 32 h2.0 h2.1 (subst (Lacks 32) h2.2.1 c.in_default-cut.ensures)
 
-pub returns-in_default-3 : goal.returns-in_default-3
-returns-in_default-3 c = λ n peer at h.
+pub returns-in_default-endpoint : goal.returns-in_default-endpoint
+returns-in_default-endpoint c = λ n peer at h.
     let a = rw c.in-Some-2.is at c.in_ok-n.ensures in
     let h1 = peel_after (codes "open 1 ") c.args.text.now _ _ c.in-Some.ensures h in
     let h2 = peel_number 32 largest _ _ _ _ refl (omega arith) a h1 in
     let h3 = peel_cut 32 _ _ _ _ c.in-Some-cut.ensures h2 in
-    (rw c.in_default-3.is at c.in_ok-peer.ensures) peer h3.1
+    (rw c.in_default-endpoint.is at c.endpoint.ensures) peer h3.1
 
-pub returns-in_default-4 : goal.returns-in_default-4
-returns-in_default-4 c = λ n peer at h.
+pub returns-in_default-endpoint-2 : goal.returns-in_default-endpoint-2
+returns-in_default-endpoint-2 c = λ n peer at h.
     let a = rw c.in-Some-2.is at c.in_ok-n.ensures in
     let h1 = peel_after (codes "open 1 ") c.args.text.now _ _ c.in-Some.ensures h in
     let h2 = peel_number 32 largest _ _ _ _ refl (omega arith) a h1 in
     let h3 = peel_cut 32 _ _ _ _ c.in-Some-cut.ensures h2 in
-    (rw c.in_default-4.is at c.in_ok-at.ensures) at h3.2
+    (rw c.in_default-endpoint-2.is at c.endpoint-2.ensures) at h3.2

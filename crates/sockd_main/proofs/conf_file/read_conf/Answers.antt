@@ -1,4 +1,4 @@
-use Rattle.std.proofs.Common.{◌≡◌, ℕ, List, subst}
+use Rattle.std.proofs.Common.{ℕ, List, subst}
 use Rattle.conf_model.specs.Reads.{HasFault, IsConfigText}
 use Rattle.sockd_main.proofs.Files.{config-file, faulty-file}
 use Rattle.sockd_main.proofs.conf_file.read_conf.Goals as goal
@@ -12,6 +12,7 @@ pub returns : goal.returns
 returns g c = record {
   found = faulty-file (g.F.Store.files c.args.files.now) c.args.name.now c.in-Read.text c.in-Err.fault c.in-Read.ensures.answer
       (subst (λ (text : List ℕ). HasFault text c.in-Err.fault) c.as_slice.ensures c.in-Err.ensures.read) c.in_default.not-Memory;
+  config = tt;
   kept = c.read_file.ensures.kept;
   later = c.read_file.ensures.later;
 }

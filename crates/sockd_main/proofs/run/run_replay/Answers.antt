@@ -1,7 +1,5 @@
-use Rattle.std.proofs.Common.{rules, ◌≡◌, ℕ, List, subst, sym}
-use mathlib.Core.List.{IsPrefix}
-use Rattle.sockd_main.specs.Quick.{HasTranscript, IsCutOff, source, sink}
-use Rattle.sockd_main.specs.Whole.{Wrote}
+use Rattle.std.proofs.Common.{rules}
+use Rattle.sockd_main.specs.Quick.{HasTranscript, source}
 use Rattle.sockd_main.proofs.Writing.{cut-off}
 use Rattle.sockd_main.proofs.run.run_replay.Goals as goal
 

@@ -1,4 +1,5 @@
 use Rattle.std.proofs.Common.{rules}
+use Rattle.socks_machine.specs.Socks.{socks}
 use Rattle.assoc_core.proofs.HeardTurns.{never-more, turns-away}
 use Rattle.assoc_core.proofs.assoc.Assoc.proceed.Goals as goal
 
@@ -9,4 +10,4 @@ returns-in-OtherVersion-clause-turns g c = λ users pubs h marks net now a desk 
 
 pub returns-in-More-clause-turns : goal.returns-in-More-clause-turns
 returns-in-More-clause-turns g c = λ users pubs h marks net now a desk k since.
-    absurd (never-more g.L.Link.told g.L.Link.counts c.args.generation c.args.config.now a c.args.self k (search rules))
+    absurd (never-more g.L.Link.told g.L.Link.counts (socks users pubs) c.args.generation c.args.config.now a c.args.self k (search rules))

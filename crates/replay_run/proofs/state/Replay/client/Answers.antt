@@ -7,26 +7,26 @@ use Rattle.replay_run.proofs.Changing.{changed, client-changes, may-arrive, plac
 use Rattle.replay_run.proofs.state.Replay.client.Goals as goal
 
 pub replace-slot-requires : goal.replace-slot-requires
-replace-slot-requires c = let d = c.requires.due.1 in
-    place-there c.args.number (may_send c.args.bytes.now) d.state.sides d.behind.s.outsides c.args.self.now.slots
-    (place-of (ScriptLine.Client c.args.number c.args.bytes.now) c.requires.due.0 c.args.self.now c.args.number (may_send c.args.bytes.now) d d.allowed)
+replace-slot-requires c = let d = c.requires.due in
+    place-there c.args.self.now.gens.configs c.args.number (may_send c.args.bytes.now) d.state.sides d.behind.s.outsides c.args.self.now.slots
+    (place-of (ScriptLine.Client c.args.number c.args.bytes.now) c.args.self.now c.args.number (may_send c.args.bytes.now) d d.allowed)
 
 pub arrive-arrived-requires : goal.arrive-arrived-requires
-arrive-arrived-requires c = let d = c.requires.due.1 in
-    may-arrive c.args.number c.args.bytes.now d.state.sides d.behind.s.outsides c.args.self.now.slots
-    (place-of (ScriptLine.Client c.args.number c.args.bytes.now) c.requires.due.0 c.args.self.now c.args.number (may_send c.args.bytes.now) d d.allowed)
+arrive-arrived-requires c = let d = c.requires.due in
+    may-arrive c.args.self.now.gens.configs c.args.number c.args.bytes.now d.state.sides d.behind.s.outsides c.args.self.now.slots
+    (place-of (ScriptLine.Client c.args.number c.args.bytes.now) c.args.self.now c.args.number (may_send c.args.bytes.now) d d.allowed)
     c.replace-slot.result c.replace-slot.ensures.value
 
 pub set-requires : goal.set-requires
-set-requires c = let d = c.requires.due.1 in
+set-requires c = let d = c.requires.due in
     still-there c.args.self.now.slots c.replace-slot.new.self _ Slot.Away
-    (place-there c.args.number (may_send c.args.bytes.now) d.state.sides d.behind.s.outsides c.args.self.now.slots
-    (place-of (ScriptLine.Client c.args.number c.args.bytes.now) c.requires.due.0 c.args.self.now c.args.number (may_send c.args.bytes.now) d d.allowed))
+    (place-there c.args.self.now.gens.configs c.args.number (may_send c.args.bytes.now) d.state.sides d.behind.s.outsides c.args.self.now.slots
+    (place-of (ScriptLine.Client c.args.number c.args.bytes.now) c.args.self.now c.args.number (may_send c.args.bytes.now) d d.allowed))
     c.replace-slot.ensures.after
 
 pub returns : goal.returns
-returns c = IfOk-weaker c.arrive-arrived.result _ _ (λ done arrived config script lines state form allowed behind.
-    changed script lines state config c.args.self.now c.set.new.self (ScriptLine.Client c.args.number c.args.bytes.now) c.args.number (may_send c.args.bytes.now) _ _
+returns c = IfOk-weaker c.arrive-arrived.result _ _ (λ done arrived script lines state form allowed behind.
+    changed script lines state c.args.self.now c.set.new.self (ScriptLine.Client c.args.number c.args.bytes.now) c.args.number (may_send c.args.bytes.now) _ _
     (with_arrival c.args.bytes.now) (client-changes c.args.number c.args.bytes.now) allowed
     (put-back c.args.self.now.slots c.replace-slot.new.self c.set.new.self _ c.replace-slot.result Slot.Away c.arrive-arrived.new.self (with_arrival c.args.bytes.now)
     c.replace-slot.ensures.value c.replace-slot.ensures.after arrived c.set.ensures) behind) c.arrive-arrived.ensures

@@ -1,15 +1,19 @@
-use Rattle.std.proofs.Common.{ap, subst, Option}
+use Rattle.std.proofs.Common.{◌<◌, ◌∙◌, ◌++◌, ℕ, ap, sym, length, arith}
 use Rattle.std.proofs.lemmas.Result.{IfOk-weaker}
-use Rattle.conf_model.specs.declared.config.Config.{Config}
-use Rattle.replay_run.specs.Behind.{IsBehind, config_of}
+use Rattle.generation.specs.Published.{Generations}
+use Rattle.replay_run.specs.Shown.{see_shown}
 use Rattle.replay_run.proofs.Rounding.{closes-published, closes-unpublished}
 use Rattle.replay_run.proofs.state.Replay.close.Goals as goal
 
-pub returns-in-None : goal.returns-in-None
-returns-in-None c = λ script state b. closes-unpublished script state c.args.self.now c.show_close.new.out c.in_ok-show_close.ensures
-    (subst (λ (k : Option Config). IsBehind script script state k c.args.self.now) (ap config_of c.in-None.is) b)
+pub returns-then-last-eq0 : goal.returns-then-last-eq0
+returns-then-last-eq0 c = λ script state b. closes-unpublished script state c.args.self.now c.show_close.new.out c.in_ok-show_close.ensures (sym c.last.ensures ∙ c.if-last-eq0.true) b
 
-pub returns-in_ok-show_see-in-Some : goal.returns-in_ok-show_see-in-Some
-returns-in_ok-show_see-in-Some c = IfOk-weaker c.rounds.result _ _ (λ x done script state b.
-    done script (closes-published script state c.in-Some.config.now c.args.self.now c.show_close.new.out c.show_see.new.out c.in_ok-show_close.ensures c.in_ok-show_see-in-Some.ensures
-    (subst (λ (k : Option Config). IsBehind script script state k c.args.self.now) (ap config_of c.in-Some.is) b))) c.rounds.ensures
+pub returns : goal.returns
+returns c =
+    let e = c.last.ensures in
+    let f = c.if-last-eq0.false in
+    let some : 0 < length c.args.self.now.gens.configs = omega (arith, e, f) in
+    IfOk-weaker c.rounds.result _ _ (λ x done script state b.
+    done script (closes-published script state c.args.self.now c.see-number.new.self c.show_close.new.out c.show_see.new.out c.in_ok-show_close.ensures
+    (c.see-number.ensures.kept ∙ ap (λ (n : ℕ). let z : Generations = record c.args.self.now.gens { seen = n } in z) c.see-number.ensures.last)
+    (c.in_ok-show_see.ensures ∙ ap (λ (n : ℕ). c.show_close.new.out ++ see_shown n) c.see-number.ensures.last) some b)) c.rounds.ensures

@@ -11,19 +11,19 @@ abbrev may_dial : Side → Bool
 may_dial side = not side.dialled
 
 pub replace-slot-requires : goal.replace-slot-requires
-replace-slot-requires c = let d = c.requires.due.1 in
-    place-there c.args.number may_dial d.state.sides d.behind.s.outsides c.args.self.now.slots
-    (place-of (ScriptLine.Dial c.args.number c.args.outer) c.requires.due.0 c.args.self.now c.args.number may_dial d d.allowed)
+replace-slot-requires c = let d = c.requires.due in
+    place-there c.args.self.now.gens.configs c.args.number may_dial d.state.sides d.behind.s.outsides c.args.self.now.slots
+    (place-of (ScriptLine.Dial c.args.number c.args.outer) c.args.self.now c.args.number may_dial d d.allowed)
 
 pub set-requires : goal.set-requires
-set-requires c = let d = c.requires.due.1 in
+set-requires c = let d = c.requires.due in
     still-there c.args.self.now.slots c.replace-slot.new.self _ Slot.Away
-    (place-there c.args.number may_dial d.state.sides d.behind.s.outsides c.args.self.now.slots
-    (place-of (ScriptLine.Dial c.args.number c.args.outer) c.requires.due.0 c.args.self.now c.args.number may_dial d d.allowed)) c.replace-slot.ensures.after
+    (place-there c.args.self.now.gens.configs c.args.number may_dial d.state.sides d.behind.s.outsides c.args.self.now.slots
+    (place-of (ScriptLine.Dial c.args.number c.args.outer) c.args.self.now c.args.number may_dial d d.allowed)) c.replace-slot.ensures.after
 
 pub returns : goal.returns
-returns c = λ config script lines state form allowed behind.
-    changed script lines state config c.args.self.now c.set.new.self (ScriptLine.Dial c.args.number c.args.outer) c.args.number may_dial _ _ (with_plan (planned c.plan_of.result))
+returns c = λ script lines state form allowed behind.
+    changed script lines state c.args.self.now c.set.new.self (ScriptLine.Dial c.args.number c.args.outer) c.args.number may_dial _ _ (with_plan (planned c.plan_of.result))
     (dial-changes c.args.number c.args.outer (planned c.plan_of.result) (c.plan_of.ensures form)) allowed
     (put-back c.args.self.now.slots c.replace-slot.new.self c.set.new.self _ c.replace-slot.result Slot.Away c.plan.new.self (with_plan (planned c.plan_of.result))
     c.replace-slot.ensures.value c.replace-slot.ensures.after c.plan.ensures c.set.ensures) behind

@@ -1,9 +1,15 @@
-use Rattle.std.proofs.Common.{◌≡◌, ◌∙◌, []}
+use Rattle.std.proofs.Common.{◌∙◌, List, [], sym, subst}
+use Rattle.generation.specs.Published.{Generations, none_published}
+use Rattle.replay_run.specs.declared.slot.Slot.{Slot}
+use Rattle.replay_script.specs.Conditions.{start}
+use Rattle.replay_run.specs.Behind.{IsBehind}
+use Rattle.std.proofs.Common.{ℕ}
 use Rattle.replay_run.proofs.Beginning.{is-fresh}
 use Rattle.replay_run.proofs.state.Replay.make.Goals as goal
 
 pub returns-in-Ok : goal.returns-in-Ok
 returns-in-Ok c = λ script served opens.
-    let slots : c.make-in-Ok.result ≡ [] = c.make-in-Ok.ensures in
-    let out : c.make-in-Ok-2.result ≡ [] = c.make-in-Ok-2.ensures in
-    rw slots (rw out (is-fresh c.in-Ok.desk script c.in-Ok.ensures.stands (c.in-Ok.ensures.cap ∙ opens) served))
+    subst (λ (z : Generations). IsBehind script [] start (record { desk = c.in-Ok.desk; gens = z; slots = c.make-in-Ok-2.result; out = c.make-in-Ok-3.result })) (sym c.make-in-Ok.ensures)
+    (subst (λ (z : List Slot). IsBehind script [] start (record { desk = c.in-Ok.desk; gens = none_published; slots = z; out = c.make-in-Ok-3.result })) (sym c.make-in-Ok-2.ensures)
+    (subst (λ (z : List ℕ). IsBehind script [] start (record { desk = c.in-Ok.desk; gens = none_published; slots = []; out = z })) (sym c.make-in-Ok-3.ensures)
+    (is-fresh c.in-Ok.desk script c.in-Ok.ensures.stands (c.in-Ok.ensures.cap ∙ opens) served)))

@@ -1,9 +1,9 @@
 use Rattle.std.proofs.Common.{sym, subst, List, ◌∷◌, take, take_all, drop, ◌+◌}
 use Rattle.socks_machine.specs.declared.script.ScriptLine.{ScriptLine}
 use Rattle.replay_script.specs.Conditions.{IsServedFrom, after, start}
-use Rattle.replay_run.specs.Behind.{IsBehind, config_of}
+use Rattle.replay_run.specs.Behind.{IsBehind}
 use Rattle.replay_run.proofs.Ending.{is-whole-where}
-use Rattle.replay_run.proofs.Forms.{next-served, next-taken, fits-published}
+use Rattle.replay_run.proofs.Forms.{next-served, next-taken}
 use Rattle.replay_run.proofs.state.Replay.play.Goals as goal
 
 pub playing-init : goal.playing-init
@@ -32,20 +32,20 @@ playing-preserved c =
     next-served i.state c.args.lines.now c.playing.line-index c.line-item.result c.playing-test.true c.line-item.is i.served in
     record {
       state = after i.state c.line-item.result;
-      behind = subst (λ (ls : List ScriptLine). IsBehind c.args.lines.now ls (after i.state c.line-item.result) (config_of c.in_ok-config.config) c.line.new.self)
+      behind = subst (λ (ls : List ScriptLine). IsBehind c.args.lines.now ls (after i.state c.line-item.result) c.line.new.self)
           (sym (next-taken c.args.lines.now c.playing.line-index c.line-item.result c.playing-test.true c.line-item.is))
-          (c.in_ok-config.ensures c.args.lines.now (take c.playing.line-index c.args.lines.now) i.state n.0 n.1 i.behind);
+          (c.in_ok-line.ensures c.args.lines.now (take c.playing.line-index c.args.lines.now) i.state n.0 n.1 i.behind);
       served = n.2;
     }
 
 pub close-requires : goal.close-requires
-close-requires c = record { numbers = fits-published c.playing.config (c.playing.invariant).behind.matches.plain }
+close-requires c = (c.playing.invariant).behind.matches.plain
 
 pub returns : goal.returns
 returns c =
     let i = c.playing.invariant in
-    let all : IsBehind c.args.lines.now c.args.lines.now i.state (config_of c.playing.config) c.playing.self =
-    subst (λ (ls : List ScriptLine). IsBehind c.args.lines.now ls i.state (config_of c.playing.config) c.playing.self)
+    let all : IsBehind c.args.lines.now c.args.lines.now i.state c.playing.self =
+    subst (λ (ls : List ScriptLine). IsBehind c.args.lines.now ls i.state c.playing.self)
     (take_all c.playing.line-index c.args.lines.now c.playing-test.false) i.behind in
     is-whole-where c.args.lines.now c.close.new.self c.as_slice.result.now c.write_ends.new.out c.write_ends.result
     (c.in_ok-close.ensures c.args.lines.now i.state all) c.as_slice.ensures c.write_ends.ensures

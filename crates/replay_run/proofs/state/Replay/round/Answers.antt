@@ -13,7 +13,7 @@ as-false true quiet h = cc
 as-false false quiet h = refl
 
 pub turning-init : goal.turning-init
-turning-init c = record { count = refl; so_far = λ script h. h }
+turning-init c = record { count = refl; gens = refl; so_far = λ script h. h }
 
 pub turn_at-requires-clause-within : goal.turn_at-requires-clause-within
 turn_at-requires-clause-within c = subst (λ (n : ℕ). c.turning.at < n) (c.len-at-end.ensures ∙ sym c.turning.invariant.count) c.turning-test.true
@@ -21,9 +21,10 @@ turn_at-requires-clause-within c = subst (λ (n : ℕ). c.turning.at < n) (c.len
 pub turning-preserved : goal.turning-preserved
 turning-preserved c = record {
   count = c.in_ok-quiet.ensures.kept ∙ c.turning.invariant.count;
-  so_far = λ script h. subst (λ (b : Bool). IsInRound script c.args.config.now (c.turning.at + 1) b c.turn_at.new.self) both
-      (subst (λ (n : ℕ). IsInRound script c.args.config.now n (c.turning.still && c.in_ok-quiet.quiet) c.turn_at.new.self) (omega arith)
-      (turn-of-round script c.args.config.now c.turning.at c.turning.still c.in_ok-quiet.quiet c.turning.self c.turn_at.new.self
+  gens = c.in_ok-quiet.ensures.gens ∙ c.turning.invariant.gens;
+  so_far = λ script h. subst (λ (b : Bool). IsInRound script (c.turning.at + 1) b c.turn_at.new.self) both
+      (subst (λ (n : ℕ). IsInRound script n (c.turning.still && c.in_ok-quiet.quiet) c.turn_at.new.self) (omega arith)
+      (turn-of-round script c.turning.at c.turning.still c.in_ok-quiet.quiet c.turning.self c.turn_at.new.self
       (subst (λ (n : ℕ). c.turning.at < n) (c.len-at-end.ensures ∙ sym c.turning.invariant.count) c.turning-test.true)
       c.in_ok-quiet.ensures.turned (c.turning.invariant.so_far script h)));
 }
@@ -34,9 +35,9 @@ turning-preserved c = record {
       | else-still w ↦ as-false c.turning.still c.in_ok-quiet.quiet w.if-still.false ∙ sym w.still-is
     ]
 
-pub returns : goal.returns
-returns c = λ script h. whole-round script c.args.config.now c.turning.still c.turning.self
-    (subst (λ (n : ℕ). IsInRound script c.args.config.now n c.turning.still c.turning.self) all (c.turning.invariant.so_far script h))
+pub returns-clause-round : goal.returns-clause-round
+returns-clause-round c = λ script h. whole-round script c.turning.still c.turning.self
+    (subst (λ (n : ℕ). IsInRound script n c.turning.still c.turning.self) all (c.turning.invariant.so_far script h))
   where
     all : c.turning.at ≡ length c.turning.self.slots
     all = let past = c.turning-test.false in let within = c.turning.auto.at-end in let end = c.len-at-end.ensures in let count = c.turning.invariant.count in

@@ -6,5 +6,6 @@ use Rattle.replay_run.proofs.state.Replay.round.Given as goal
 abbrev pub invariant-turning : goal.invariant-turning
 invariant-turning l = record {
   count : length l.self.slots ≡ length l.fn.self.slots;
-  so_far : (script : List ScriptLine) → IsInRound script l.config 0 true l.fn.self → IsInRound script l.config l.at l.still l.self;
+  gens : l.self.gens ≡ l.fn.self.gens;
+  so_far : (script : List ScriptLine) → IsInRound script 0 true l.fn.self → IsInRound script l.at l.still l.self;
 }

@@ -10,19 +10,19 @@ abbrev may_end_target : Side → Bool
 may_end_target side = not side.end_t
 
 pub replace-slot-requires : goal.replace-slot-requires
-replace-slot-requires c = let d = c.requires.due.1 in
-    place-there c.args.number may_end_target d.state.sides d.behind.s.outsides c.args.self.now.slots
-    (place-of (ScriptLine.TargetEnd c.args.number) c.requires.due.0 c.args.self.now c.args.number may_end_target d d.allowed)
+replace-slot-requires c = let d = c.requires.due in
+    place-there c.args.self.now.gens.configs c.args.number may_end_target d.state.sides d.behind.s.outsides c.args.self.now.slots
+    (place-of (ScriptLine.TargetEnd c.args.number) c.args.self.now c.args.number may_end_target d d.allowed)
 
 pub set-requires : goal.set-requires
-set-requires c = let d = c.requires.due.1 in
+set-requires c = let d = c.requires.due in
     still-there c.args.self.now.slots c.replace-slot.new.self _ Slot.Away
-    (place-there c.args.number may_end_target d.state.sides d.behind.s.outsides c.args.self.now.slots
-    (place-of (ScriptLine.TargetEnd c.args.number) c.requires.due.0 c.args.self.now c.args.number may_end_target d d.allowed)) c.replace-slot.ensures.after
+    (place-there c.args.self.now.gens.configs c.args.number may_end_target d.state.sides d.behind.s.outsides c.args.self.now.slots
+    (place-of (ScriptLine.TargetEnd c.args.number) c.args.self.now c.args.number may_end_target d d.allowed)) c.replace-slot.ensures.after
 
 pub returns : goal.returns
-returns c = λ config script lines state form allowed behind.
-    changed script lines state config c.args.self.now c.set.new.self (ScriptLine.TargetEnd c.args.number) c.args.number may_end_target _ _ with_target_end
+returns c = λ script lines state form allowed behind.
+    changed script lines state c.args.self.now c.set.new.self (ScriptLine.TargetEnd c.args.number) c.args.number may_end_target _ _ with_target_end
     (target-end-changes c.args.number) allowed
     (put-back c.args.self.now.slots c.replace-slot.new.self c.set.new.self _ c.replace-slot.result Slot.Away c.end_target.new.self with_target_end
     c.replace-slot.ensures.value c.replace-slot.ensures.after c.end_target.ensures c.set.ensures) behind
