@@ -1,0 +1,9 @@
+pub mod Tight
+pub mod Fine
+pub mod Shifting
+pub mod Named
+pub mod Asking
+pub mod Stages
+pub mod Hearing
+pub mod Entering
+pub mod Feeding

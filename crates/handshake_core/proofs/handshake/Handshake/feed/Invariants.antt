@@ -1,0 +1,5 @@
+use Rattle.handshake_core.specs.Standing.{IsSoFar}
+use Rattle.handshake_core.proofs.handshake.Handshake.feed.Given as goal
+
+abbrev pub invariant-loop-i : goal.invariant-loop-i
+invariant-loop-i l = IsSoFar l.methods l.users l.fn.self l.input l.i l.self-inside.state
