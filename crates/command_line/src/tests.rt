@@ -26,7 +26,7 @@ fn asks(alloc: Global, text: &str, command: &str, file: &str) -> Option<bool> {
 }
 
 /// Words that are joined by blanks here, the command that they ask for, and its file.
-const TABLE: [(&str, &str, &str); 33] = [
+const TABLE: [(&str, &str, &str); 34] = [
     ("check a.conf", "check", "a.conf"),
     ("check -- a.conf", "check", "a.conf"),
     ("check a.conf --", "check", "a.conf"),
@@ -46,6 +46,7 @@ const TABLE: [(&str, &str, &str); 33] = [
     ("Check a", "usage", ""),
     ("-- check a", "usage", ""),
     ("serve a", "usage", ""),
+    ("tunnel", "usage", ""),
     ("", "usage", ""),
     ("replay", "replay", ""),
     ("replay --", "replay", ""),
