@@ -48,6 +48,7 @@ pub fn strip_front<'a>(text: &'a [u8], front: &[u8]) -> Option<&'a [u8]>
     }
 }
 
+/// Whether the text is this word, byte for byte.
 pub fn is_word(text: &[u8], word: &[u8]) -> bool
     ensures { result ≡ bytes_eq text.now word.now }
 {

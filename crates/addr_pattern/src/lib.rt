@@ -25,7 +25,8 @@ mod port_text;
 mod short;
 
 pub use addr::Addr;
-pub use cut::cut_first;
+pub use blanks::is_word;
+pub use cut::{cut_first, cut_last};
 pub use endpoint::Endpoint;
 pub use fault::AddrFault;
 pub use front::{BadAt, BadKind, Front, Span};

@@ -1,8 +1,7 @@
-ghost use Rattle.std.specs.Prelude.{◌≡◌, bytes_eq};
+ghost use Rattle.std.specs.Prelude.{◌≡◌};
 ghost use Rattle.command_line.specs.Words.{command_of, takes_name as takes_name_of};
 
-use crate::cut::cut_last;
-use addr_pattern::{Endpoint, Name};
+use addr_pattern::{Endpoint, Name, cut_last, is_word};
 use conf_model::Command;
 
 /// An endpoint, and the name under which it was asked for, if any.
@@ -33,12 +32,6 @@ impl Destination {
             _ => None,
         }
     }
-}
-
-fn is_word(text: &[u8], word: &[u8]) -> bool
-    ensures { result ≡ bytes_eq text.now word.now }
-{
-    text == word
 }
 
 /// The command that a word says, as `command` in a socks rule does.

@@ -2,7 +2,6 @@
 #![tactic(auto)]
 
 mod asked;
-mod cut;
 mod destination;
 mod read;
 mod table;

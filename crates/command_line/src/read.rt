@@ -1,5 +1,5 @@
 //! What words ask for.
-ghost use Rattle.std.specs.Prelude.{◌≡◌, IfOk, map, option_map, bytes_eq};
+ghost use Rattle.std.specs.Prelude.{◌≡◌, IfOk, map, option_map};
 ghost use Rattle.std.specs.String.{string_bytes};
 ghost use Rattle.clap.specs.Words.{first_of, found_of, rows_of};
 ghost use Rattle.command_line.specs.Words.{asked_of, check_of, checked, decide_of, decided, replay_of, wanted, wanted_words};
@@ -7,7 +7,7 @@ ghost use Rattle.command_line.specs.Words.{asked_of, check_of, checked, decide_o
 use crate::asked::Asked;
 use crate::destination::{Destination, read_command, takes_name};
 use crate::table::{check_command, decide_command, matches_in, replay_command};
-use addr_pattern::Endpoint;
+use addr_pattern::{Endpoint, is_word};
 use clap::ArgMatches;
 use conf_text::Memory;
 use std::alloc::Global;
@@ -104,12 +104,6 @@ fn read_replay<'a>(alloc: Global, words: &'a [String]) -> Result<Option<Asked<'a
     }
 }
 
-fn is_word(text: &str, word: &str) -> bool
-    ensures { result ≡ bytes_eq text.now word.now }
-{
-    text == word
-}
-
 /// What the words behind the program's name ask for; `None` where they fit no command. The first word is the command's
 /// name. The others are its arguments: options, of which no command has any yet, may stand in any place, `--` ends them,
 /// and any other word of two or more bytes that begins with `-` is refused where an option may stand.
@@ -119,14 +113,14 @@ pub fn read_words<'a>(alloc: Global, words: &'a [String]) -> Result<Option<Asked
     let Some((first, rest)) = words.split_first() else {
         return Ok(None);
     };
-    let command = first.as_str();
-    if is_word(command, "check") {
+    let command = first.as_bytes();
+    if is_word(command, b"check") {
         return read_check(alloc, rest);
     }
-    if is_word(command, "decide") {
+    if is_word(command, b"decide") {
         return read_decide(alloc, rest);
     }
-    if is_word(command, "replay") {
+    if is_word(command, b"replay") {
         return read_replay(alloc, rest);
     }
     Ok(None)

@@ -1,4 +1,5 @@
 pub mod GrammarLaws
+pub mod Exact
 pub mod Walks
 pub mod Reading
 pub mod Adding

@@ -8,6 +8,7 @@ pub mod Handshake
 pub mod Kept
 pub mod Keys
 pub mod Plain
+pub mod Prefixes
 pub mod Reads
 pub mod Settings
 pub mod Stable

@@ -1,6 +1,8 @@
 //! The keys of a configuration.
-ghost use Rattle.std.specs.Prelude.{◌≡◌, bytes_eq};
+ghost use Rattle.std.specs.Prelude.{◌≡◌};
 ghost use Rattle.conf_model.specs.Keys.{allows as allows_of, block_kind as block_kind_of, client_allows as client_allows_of, entry_key as entry_key_of, is_ignored as is_ignored_of, is_methods as is_methods_of, route_allows as route_allows_of, socks_allows as socks_allows_of, top_key as top_key_of};
+
+use addr_pattern::is_word;
 
 /// A key at the top.
 #[derive(Clone, Copy)]
@@ -39,12 +41,6 @@ pub enum EntryKey {
     Versions,
     Via,
     Login,
-}
-
-pub fn is_word(text: &[u8], word: &[u8]) -> bool
-    ensures { result ≡ bytes_eq text.now word.now }
-{
-    text == word
 }
 
 fn is_ignored(text: &[u8]) -> bool

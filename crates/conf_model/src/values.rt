@@ -9,10 +9,11 @@ ghost use Rattle.addr_pattern.specs.Names.{name_of};
 
 use crate::fault::ConfKind;
 use crate::given::{Commands, Hop, Methods, Protocols, Versions};
-use crate::keys::is_word;
 use crate::protocol::Method;
 use crate::route::Login;
-use addr_pattern::{Addr, Endpoint, Name, Pattern, cut_first, read_number, read_port_part};
+use addr_pattern::{
+    Addr, Endpoint, Name, Pattern, cut_first, is_word, read_number, read_port_part,
+};
 use conf_text::{List, Text, joined};
 use std::alloc::{AllocError, Global};
 

@@ -6,14 +6,11 @@ use Rattle.conf_model.specs.declared.route.Route.{Route}
 use Rattle.conf_model.specs.declared.route.Via.{Via}
 use Rattle.conf_model.specs.declared.rule.ClientRule.{ClientRule}
 use Rattle.conf_model.specs.declared.rule.SocksRule.{SocksRule}
-
-abbrev pub is_no_login : Method → Bool
-is_no_login Method.NoAuth = true
-is_no_login Method.Username = false
+use Rattle.conf_model.specs.Equal.{method_eq}
 
 abbrev pub asks_no_login : List Method → Bool
 asks_no_login [] = false
-asks_no_login (m ∷ []) = is_no_login m
+asks_no_login (m ∷ []) = method_eq m Method.NoAuth
 asks_no_login (m ∷ n ∷ ms) = false
 
 abbrev pub is_direct : Via → Bool

@@ -1,6 +1,5 @@
 mod Rows
 pub mod Ended
-pub mod Exact
 pub mod Prefixes
 pub mod Spelled
 pub mod UserName

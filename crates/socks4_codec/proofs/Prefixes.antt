@@ -1,24 +1,56 @@
 -- The readers of requests and replies want more exactly of proper prefixes.
-use Rattle.std.proofs.Common.{ℕ, true, ◌==◌, ◌||◌, ◌&&◌, nat_le, Some, None, ◌∷◌, refl}
-use Rattle.std.specs.Int.{w16, w32, from_be_bytes}
+use Rattle.std.proofs.Common.{ℕ, zero, suc, ◌≡◌, ◌+◌, Bool, true, false, cond, ◌==◌, ◌||◌, ◌&&◌, nat_le, Some, None, List, [], ◌∷◌, refl, sym, ap}
 use Rattle.addr_pattern.specs.declared.addr.Addr.{Addr}
 use Rattle.addr_pattern.specs.declared.host.Host.{Host}
 use Rattle.addr_pattern.specs.declared.front.BadKind.{BadKind}
 use Rattle.addr_pattern.specs.AddressText.{host_of}
 use Rattle.conf_model.specs.declared.protocol.Command.{Command}
-use Rattle.conf_model.specs.Grammar.{◌>>=◌, done, byte_that, any_bytes, number16, number32, is_name_byte, ended_by_zero, means_name, name4, host4, command4, request4, reply4_head}
-use Rattle.socks4_codec.specs.Laws.{StopsExactly}
+use Rattle.conf_model.specs.Grammar.{Read, Reader, ◌>>=◌, and_then, done, byte_that, number16, number32, is_name_byte, ended_by_zero, means_name, name4, host4, command4, request4, reply4_head}
+use Rattle.conf_model.specs.Prefixes.{StopsExactly}
 use Rattle.socks4_codec.specs.Parts.{name_part, behind_user, behind_addr, parts4, reply4}
-use Rattle.socks4_codec.proofs.Exact.{IsExact, done-exact, cond-exact, bind-exact, byte-exact, bytes-exact, ended-exact, stops-exactly}
+use Rattle.conf_model.proofs.Exact.{IsExact, same-exact, done-exact, cond-exact, bind-exact, byte-exact, number16-exact, number32-exact, stops-exactly}
 
-any-exact : (n : ℕ) → IsExact (any_bytes n)
-any-exact n = bytes-exact (λ _. true) BadKind.Field 0 refl refl n
+-- ---- bytes that end with a 00
 
-number16-exact : IsExact number16
-number16-exact = bind-exact (any_bytes 2) (λ bs. done (from_be_bytes w16 bs)) (any-exact 2) (λ bs. done-exact (from_be_bytes w16 bs))
+module _ (test : ℕ → Bool) where
+  abbrev ends-or-fits : ℕ → Bool
+  ends-or-fits b = b == 0 || test b
 
-number32-exact : IsExact number32
-number32-exact = bind-exact (any_bytes 4) (λ bs. done (from_be_bytes w32 bs)) (any-exact 4) (λ bs. done-exact (from_be_bytes w32 bs))
+  -- the bytes behind one that is no 00
+  abbrev behind : ℕ → ℕ → Reader (List ℕ)
+  behind room b = cond (b == 0) (done []) (ended_by_zero test room >>= λ bs. done (b ∷ bs))
+
+  last-step : (at : ℕ) (bytes : List ℕ) → ended_by_zero test zero at bytes ≡ (byte_that (λ b. b == 0) BadKind.Field >>= λ b. done []) at bytes
+  last-step at [] = refl
+  last-step at (b ∷ bs) = choice (b == 0)
+    where
+      choice : (t : Bool) → cond t (Read.Got [] (at + 1) bs) (Read.Wrong at b BadKind.Field)
+          ≡ and_then (cond t (Read.Got b (at + 1) bs) (Read.Wrong at b BadKind.Field)) (λ b. done {A = List ℕ} [])
+      choice true = refl
+      choice false = refl
+
+  ended-step : (room at : ℕ) (bytes : List ℕ) → ended_by_zero test (suc room) at bytes ≡ (byte_that ends-or-fits BadKind.Field >>= behind room) at bytes
+  ended-step room at [] = refl
+  ended-step room at (b ∷ bs) = choice (b == 0) (test b) refl
+    where
+      choice : (z t : Bool) → (b == 0) ≡ z → elim z [
+        | true ↦ Read.Got [] (at + 1) bs
+        | false ↦ elim t [ true ↦ and_then (ended_by_zero test room (at + 1) bs) (λ bs. done (b ∷ bs)) | false ↦ Read.Wrong at b BadKind.Field ]
+      ]
+          ≡ and_then (cond (z || t) (Read.Got b (at + 1) bs) (Read.Wrong at b BadKind.Field)) (behind room)
+      choice true t e = ap (λ z. cond z (done []) (ended_by_zero test room >>= λ bs. done (b ∷ bs)) (at + 1) bs) (sym e)
+      choice false true e = ap (λ z. cond z (done []) (ended_by_zero test room >>= λ bs. done (b ∷ bs)) (at + 1) bs) (sym e)
+      choice false false e = refl
+
+  pub ended-exact : (room : ℕ) → IsExact (ended_by_zero test room)
+  ended-exact zero = same-exact (ended_by_zero test zero) (byte_that (λ b. b == 0) BadKind.Field >>= λ b. done []) last-step
+      (bind-exact (byte_that (λ b. b == 0) BadKind.Field) (λ b. done []) (byte-exact (λ b. b == 0) BadKind.Field 0 refl refl) (λ b. done-exact []))
+  ended-exact (suc room) = same-exact (ended_by_zero test (suc room)) (byte_that ends-or-fits BadKind.Field >>= behind room) (ended-step room)
+      (bind-exact (byte_that ends-or-fits BadKind.Field) (behind room) (byte-exact ends-or-fits BadKind.Field 0 refl refl) (λ b.
+      cond-exact (b == 0) (done []) (ended_by_zero test room >>= λ bs. done (b ∷ bs)) (done-exact [])
+      (bind-exact (ended_by_zero test room) (λ bs. done (b ∷ bs)) (ended-exact room) (λ bs. done-exact (b ∷ bs)))))
+
+-- ---- the messages
 
 name4-exact : IsExact name4
 name4-exact = bind-exact (byte_that is_name_byte BadKind.Field) (λ first. ended_by_zero is_name_byte 254 >>= λ rest. done (first ∷ rest))

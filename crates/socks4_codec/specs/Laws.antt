@@ -1,13 +1,11 @@
--- What is written is read again, whatever follows it; and where a reader wants more.
-use Rattle.std.specs.Prelude.{ℕ, ◌+◌, ◌≡◌, ◌≢◌, ◌<◌, ◌≤◌, ◌^◌, false, nat_lt, IsTrue, Option, Some, None, Ok, List, [], ◌++◌, length, take}
-use Rattle.std.specs.List.{list_all, slice_get}
+-- What is written is read again, whatever follows it.
+use Rattle.std.specs.Prelude.{ℕ, ◌≡◌, ◌<◌, ◌≤◌, ◌^◌, false, Option, Some, None, Ok, List, ◌++◌, length}
 use Rattle.addr_pattern.specs.declared.addr.Addr.{Addr}
 use Rattle.addr_pattern.specs.declared.endpoint.Endpoint.{Endpoint}
 use Rattle.addr_pattern.specs.declared.host.Host.{Host}
-use Rattle.addr_pattern.specs.declared.front.BadKind.{BadKind}
 use Rattle.addr_pattern.specs.Names.{name_of}
 use Rattle.conf_model.specs.declared.protocol.Command.{Command}
-use Rattle.conf_model.specs.Grammar.{Read, Reader, ◌>>=◌, means_name, request4, reply4_head, endpoint4, spelled_request4}
+use Rattle.conf_model.specs.Grammar.{Read, ◌>>=◌, means_name, request4, reply4_head, endpoint4, spelled_request4}
 use Rattle.socks4_codec.specs.declared.reply.Reply4.{Reply4}
 use Rattle.socks4_codec.specs.Parts.{Parts4, parts4, asked_by, reply4, spelled_reply4}
 use Rattle.socks4_codec.specs.Writes.{IsCommand4, IsUser}
@@ -63,17 +61,3 @@ endpoint_by (Read.Wrong at byte kind) = Read.Wrong at byte kind
 -- the head of a reply and the endpoint behind it are the reply
 abbrev pub RepliesInPieces : Type 0
 RepliesInPieces = (at : ℕ) (bytes : List ℕ) → (reply4_head >>= λ code. endpoint4) at bytes ≡ endpoint_by (reply4 at bytes)
-
--- ---- where a reader wants more
-
--- a proper prefix of a spelling: with some bytes behind it, but not with none, it is one whole
-abbrev pub IsProperPrefix : {A : Type 0} → Reader A → List ℕ → Type 0
-IsProperPrefix {A} read bytes = (more : List ℕ) × (more ≢ []) × IsTrue (list_all (λ b. nat_lt b 256) more) × ((a : A) × (read 0 (bytes ++ more) ≡ Read.Got a (length (bytes ++ more)) []))
-
--- More comes exactly for the proper prefixes of spellings; the byte that is bad is the first after which no spelling is possible; a whole answer doesn't depend on what follows.
-pub record StopsExactly {A : Type 0} (read : Reader A) : Type 0 where
-  pub more : (bytes : List ℕ) → read 0 bytes ≡ Read.Short → IsProperPrefix read bytes
-  pub only_more : (bytes : List ℕ) → IsProperPrefix read bytes → read 0 bytes ≡ Read.Short
-  pub before_bad : (bytes : List ℕ) (at byte : ℕ) (kind : BadKind) → read 0 bytes ≡ Read.Wrong at byte kind → (slice_get bytes at ≡ Some byte) × IsProperPrefix read (take at bytes)
-  pub after_bad : (bytes : List ℕ) (at byte : ℕ) (kind : BadKind) → read 0 bytes ≡ Read.Wrong at byte kind → (more : List ℕ) → read 0 (take (at + 1) bytes ++ more) ≡ Read.Wrong at byte kind
-  pub whole : (bytes : List ℕ) (a : A) (len : ℕ) (rest : List ℕ) → read 0 bytes ≡ Read.Got a len rest → (more : List ℕ) → read 0 (take len bytes ++ more) ≡ Read.Got a len more

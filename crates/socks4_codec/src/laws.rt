@@ -3,7 +3,8 @@
 //! Each function does nothing; its contract is the law.
 
 ghost use Rattle.conf_model.specs.Grammar.{request4};
-ghost use Rattle.socks4_codec.specs.Laws.{RequestsReadAgain, RepliesInPieces, RepliesReadAgain, StopsExactly};
+ghost use Rattle.conf_model.specs.Prefixes.{StopsExactly};
+ghost use Rattle.socks4_codec.specs.Laws.{RequestsReadAgain, RepliesInPieces, RepliesReadAgain};
 ghost use Rattle.socks4_codec.specs.Parts.{parts4, reply4};
 
 /// A request that is written is read again, whatever follows it. An address 0.0.0.x with x not 0 is the sign of a name, and

@@ -3,7 +3,6 @@ pub mod Bytes
 pub mod Names
 pub mod Numbers
 pub mod Asked
-pub mod Exact
 pub mod Moved
 pub mod Prefixes
 pub mod Spelled

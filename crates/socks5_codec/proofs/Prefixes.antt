@@ -1,26 +1,14 @@
 -- The readers of the messages want more exactly of proper prefixes.
 use Rattle.std.proofs.Common.{ℕ, true, not, ◌==◌, ◌||◌, refl}
-use Rattle.std.specs.Int.{w16, w32, w128, from_be_bytes}
+use Rattle.std.specs.Int.{w128, from_be_bytes}
 use Rattle.addr_pattern.specs.declared.front.BadKind.{BadKind}
 use Rattle.conf_model.specs.Grammar.{done, byte_that, any_byte, any_bytes, bytes_that, number16, number32, number128, is_name_byte, name5, is_atyp, host_by_type, host5, greeting, method_answer, request5, reply5_head, udp_header}
-use Rattle.socks5_codec.specs.Laws.{StopsExactly}
+use Rattle.conf_model.specs.Prefixes.{StopsExactly}
 use Rattle.socks5_codec.specs.Parts.{host_spelled, typed_host, destination, request_spelled, reply5, header_spelled}
-use Rattle.socks5_codec.proofs.Exact.{IsExact, done-exact, cond-exact, bind-exact, byte-exact, bytes-exact, stops-exactly}
-
-any_byte-exact : IsExact any_byte
-any_byte-exact = byte-exact (λ _. true) BadKind.Field 0 refl refl
-
-any_bytes-exact : (n : ℕ) → IsExact (any_bytes n)
-any_bytes-exact n = bytes-exact (λ _. true) BadKind.Field 0 refl refl n
+use Rattle.conf_model.proofs.Exact.{IsExact, done-exact, cond-exact, bind-exact, byte-exact, any_byte-exact, bytes-exact, any_bytes-exact, number16-exact, stops-exactly, number32-exact}
 
 version-exact : IsExact (byte_that (λ b. b == 5) BadKind.Version)
 version-exact = byte-exact (λ b. b == 5) BadKind.Version 5 refl refl
-
-number16-exact : IsExact number16
-number16-exact = bind-exact (any_bytes 2) (λ bs. done (from_be_bytes w16 bs)) (any_bytes-exact 2) (λ bs. done-exact (from_be_bytes w16 bs))
-
-number32-exact : IsExact number32
-number32-exact = bind-exact (any_bytes 4) (λ bs. done (from_be_bytes w32 bs)) (any_bytes-exact 4) (λ bs. done-exact (from_be_bytes w32 bs))
 
 number128-exact : IsExact number128
 number128-exact = bind-exact (any_bytes 16) (λ bs. done (from_be_bytes w128 bs)) (any_bytes-exact 16) (λ bs. done-exact (from_be_bytes w128 bs))

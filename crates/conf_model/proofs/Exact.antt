@@ -1,11 +1,12 @@
 -- Readers that want more exactly of the proper prefixes of what they read whole.
-use Rattle.std.proofs.Common.{ℕ, zero, suc, ◌≡◌, ◌≢◌, ◌+◌, Bool, true, false, cond, ◌||◌, ◌==◌, nat_lt, Some, List, [], ◌∷◌, ◌++◌, length, take, refl, sym, ap, subst, ◌∙◌, arith, append_assoc, length-append}
+use Rattle.std.proofs.Common.{ℕ, zero, suc, ◌≡◌, ◌≢◌, ◌+◌, Bool, true, false, cond, nat_lt, Some, List, [], ◌∷◌, ◌++◌, length, take, refl, sym, ap, subst, ◌∙◌, arith, append_assoc, length-append}
+use Rattle.std.specs.Int.{w16, w32, from_be_bytes}
 use Rattle.std.specs.List.{list_all, slice_get}
 use Rattle.std.proofs.lemmas.List.{append-nil, take_at}
 use Rattle.std.proofs.lemmas.List.Folds.{list_all-append}
 use Rattle.addr_pattern.specs.declared.front.BadKind.{BadKind}
-use Rattle.conf_model.specs.Grammar.{Read, Reader, ◌>>=◌, and_then, done, byte_that, bytes_that, ended_by_zero}
-use Rattle.socks4_codec.specs.Laws.{IsProperPrefix, StopsExactly}
+use Rattle.conf_model.specs.Grammar.{Read, Reader, ◌>>=◌, and_then, done, byte_that, any_byte, bytes_that, any_bytes, number16, number32}
+use Rattle.conf_model.specs.Prefixes.{IsProperPrefix, StopsExactly}
 
 abbrev pub are-bytes : List ℕ → Bool
 are-bytes xs = list_all (λ b. nat_lt b 256) xs
@@ -218,45 +219,19 @@ module _ (test : ℕ → Bool) (kind : BadKind) (witness : ℕ) (passes : test w
       (bind-exact (byte_that test kind) (λ b. bytes_that test kind n >>= λ bs. done (b ∷ bs)) byte-exact (λ b.
       bind-exact (bytes_that test kind n) (λ bs. done (b ∷ bs)) (bytes-exact n) (λ bs. done-exact (b ∷ bs))))
 
--- ---- bytes that end with a 00
+-- ---- any bytes
 
-module _ (test : ℕ → Bool) where
-  abbrev ends-or-fits : ℕ → Bool
-  ends-or-fits b = b == 0 || test b
+pub any_byte-exact : IsExact any_byte
+any_byte-exact = byte-exact (λ _. true) BadKind.Field 0 refl refl
 
-  -- the bytes behind one that is no 00
-  abbrev behind : ℕ → ℕ → Reader (List ℕ)
-  behind room b = cond (b == 0) (done []) (ended_by_zero test room >>= λ bs. done (b ∷ bs))
+pub any_bytes-exact : (n : ℕ) → IsExact (any_bytes n)
+any_bytes-exact n = bytes-exact (λ _. true) BadKind.Field 0 refl refl n
 
-  last-step : (at : ℕ) (bytes : List ℕ) → ended_by_zero test zero at bytes ≡ (byte_that (λ b. b == 0) BadKind.Field >>= λ b. done []) at bytes
-  last-step at [] = refl
-  last-step at (b ∷ bs) = choice (b == 0)
-    where
-      choice : (t : Bool) → cond t (Read.Got [] (at + 1) bs) (Read.Wrong at b BadKind.Field)
-          ≡ and_then (cond t (Read.Got b (at + 1) bs) (Read.Wrong at b BadKind.Field)) (λ b. done {A = List ℕ} [])
-      choice true = refl
-      choice false = refl
+pub number16-exact : IsExact number16
+number16-exact = bind-exact (any_bytes 2) (λ bs. done (from_be_bytes w16 bs)) (any_bytes-exact 2) (λ bs. done-exact (from_be_bytes w16 bs))
 
-  ended-step : (room at : ℕ) (bytes : List ℕ) → ended_by_zero test (suc room) at bytes ≡ (byte_that ends-or-fits BadKind.Field >>= behind room) at bytes
-  ended-step room at [] = refl
-  ended-step room at (b ∷ bs) = choice (b == 0) (test b) refl
-    where
-      choice : (z t : Bool) → (b == 0) ≡ z → elim z [
-        | true ↦ Read.Got [] (at + 1) bs
-        | false ↦ elim t [ true ↦ and_then (ended_by_zero test room (at + 1) bs) (λ bs. done (b ∷ bs)) | false ↦ Read.Wrong at b BadKind.Field ]
-      ]
-          ≡ and_then (cond (z || t) (Read.Got b (at + 1) bs) (Read.Wrong at b BadKind.Field)) (behind room)
-      choice true t e = ap (λ z. cond z (done []) (ended_by_zero test room >>= λ bs. done (b ∷ bs)) (at + 1) bs) (sym e)
-      choice false true e = ap (λ z. cond z (done []) (ended_by_zero test room >>= λ bs. done (b ∷ bs)) (at + 1) bs) (sym e)
-      choice false false e = refl
-
-  pub ended-exact : (room : ℕ) → IsExact (ended_by_zero test room)
-  ended-exact zero = same-exact (ended_by_zero test zero) (byte_that (λ b. b == 0) BadKind.Field >>= λ b. done []) last-step
-      (bind-exact (byte_that (λ b. b == 0) BadKind.Field) (λ b. done []) (byte-exact (λ b. b == 0) BadKind.Field 0 refl refl) (λ b. done-exact []))
-  ended-exact (suc room) = same-exact (ended_by_zero test (suc room)) (byte_that ends-or-fits BadKind.Field >>= behind room) (ended-step room)
-      (bind-exact (byte_that ends-or-fits BadKind.Field) (behind room) (byte-exact ends-or-fits BadKind.Field 0 refl refl) (λ b.
-      cond-exact (b == 0) (done []) (ended_by_zero test room >>= λ bs. done (b ∷ bs)) (done-exact [])
-      (bind-exact (ended_by_zero test room) (λ bs. done (b ∷ bs)) (ended-exact room) (λ bs. done-exact (b ∷ bs)))))
+pub number32-exact : IsExact number32
+number32-exact = bind-exact (any_bytes 4) (λ bs. done (from_be_bytes w32 bs)) (any_bytes-exact 4) (λ bs. done-exact (from_be_bytes w32 bs))
 
 -- ---- from the front of the bytes
 
