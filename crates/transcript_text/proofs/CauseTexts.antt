@@ -1,12 +1,10 @@
 -- The text of a cause is its name and what stands behind it.
-use Rattle.std.proofs.Common.{ℕ, Some, None, List, [], ◌∷◌, ◌++◌, ◌≡◌, ◌∙◌, sym, ap, subst, refl, append-nil, codes, Result, OnOk}
+use Rattle.std.proofs.Common.{ℕ, Some, None, List, [], ◌∷◌, ◌++◌, ◌≡◌, ◌∙◌, sym, ap, subst, refl, append-nil, Result, OnOk}
 use Rattle.rule_list.specs.declared.verdict.Verdict.{Verdict}
 use Rattle.socks_machine.specs.declared.cause.Cause.{Cause}
-use Rattle.addr_pattern.specs.AddressText.{endpoint_text}
 use Rattle.socks_machine.specs.LogText.{words, cause_words, cause_text}
-use Rattle.transcript_text.specs.Pieces.{digits, hex_pair, blanked, addr_word}
+use Rattle.transcript_text.specs.Pieces.{digits, hex_pair, blanked}
 use Rattle.transcript_text.specs.Causes.{cause_name, details}
-use Rattle.transcript_text.proofs.Addresses.{addr_word-text, endpoint_word-text}
 
 pub words-blanked : (w : List ℕ) (ws : List (List ℕ)) → words (w ∷ ws) ≡ w ++ blanked ws
 words-blanked w [] = sym (append-nil w)
@@ -45,9 +43,7 @@ details-words Cause.TargetFault = refl
 details-words Cause.DoorFault = refl
 details-words Cause.PortFault = refl
 details-words Cause.LogFault = refl
-details-words (Cause.WrongPeer peer asked) =
-    ap (λ (z : List ℕ). codes "wrongpeer" ∷ z ∷ codes "asked" ∷ addr_word asked ∷ []) (endpoint_word-text peer)
-    ∙ ap (λ (z : List ℕ). codes "wrongpeer" ∷ endpoint_text peer ∷ codes "asked" ∷ z ∷ []) (addr_word-text asked)
+details-words (Cause.WrongPeer peer asked) = refl
 details-words (Cause.TimedOut since now limit) = refl
 details-words (Cause.Stopped by) = refl
 details-words Cause.Memory = refl

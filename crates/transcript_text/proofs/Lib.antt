@@ -1,4 +1,3 @@
-pub mod Addresses
 pub mod CauseTexts
 pub mod Endings
 pub mod Numbers

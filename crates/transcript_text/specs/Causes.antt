@@ -2,8 +2,9 @@
 use Rattle.std.specs.Prelude.{ℕ, Option, Some, None, List, [], ◌∷◌, codes}
 use Rattle.rule_list.specs.declared.verdict.Verdict.{Verdict}
 use Rattle.socks_machine.specs.declared.cause.Cause.{Cause}
+use Rattle.addr_pattern.specs.AddressText.{addr_text, endpoint_text}
 use Rattle.socks_machine.specs.LogText.{standing_text, stop_text, stage_text, kind_text}
-use Rattle.transcript_text.specs.Pieces.{digits, hex_pair, addr_word, endpoint_word}
+use Rattle.transcript_text.specs.Pieces.{digits, hex_pair}
 
 abbrev pub cause_name : Cause → List ℕ
 cause_name Cause.Finished = codes "finished"
@@ -76,7 +77,7 @@ details (Cause.AtypUnsupported at byte) = place_words at byte
 details (Cause.ClientGone at) = codes "at" ∷ digits at ∷ []
 details (Cause.Upstream stage code) = stage_text stage ∷ hex_pair code ∷ []
 details (Cause.UpstreamBad at byte) = upstream_words at byte
-details (Cause.WrongPeer peer asked) = endpoint_word peer ∷ codes "asked" ∷ addr_word asked ∷ []
+details (Cause.WrongPeer peer asked) = endpoint_text peer ∷ codes "asked" ∷ addr_text asked ∷ []
 details (Cause.TimedOut since now limit) =
     codes "since" ∷ digits since ∷ codes "now" ∷ digits now ∷ codes "limit" ∷ digits limit ∷ []
 details (Cause.Stopped by) = stop_text by ∷ []

@@ -1,6 +1,7 @@
 ghost use Rattle.std.specs.Prelude.{◌≡◌, ◌++◌, ◌∷◌, [], OnOk, codes};
 ghost use Rattle.socks_machine.specs.LogText.{cause_text, standing_text, stop_text, stage_text, kind_text};
-ghost use Rattle.transcript_text.specs.Pieces.{digits, blanked, addr_word, endpoint_word};
+ghost use Rattle.addr_pattern.specs.AddressText.{addr_text, endpoint_text};
+ghost use Rattle.transcript_text.specs.Pieces.{digits, blanked};
 ghost use Rattle.transcript_text.specs.Causes.{cause_name, details, rule_digits, client_digits, socks_digits, place_words, upstream_words};
 
 use crate::address::{add_addr, add_endpoint};
@@ -98,7 +99,7 @@ fn add_details(alloc: Global, out: &mut Text, cause: Cause) -> Result<(), AllocE
             add_hex_word(out, code)
         }
         Cause::UpstreamBad { at, byte } => add_upstream_place(alloc, out, at, byte),
-        Cause::WrongPeer { peer, asked } => add_peers(alloc, out, peer, asked),
+        Cause::WrongPeer { peer, asked } => add_peers(out, peer, asked),
         Cause::TimedOut { since, now, limit } => add_times(alloc, out, since, now, limit),
         Cause::Stopped { by } => add_word(out, stop_word(by)),
         _ => Ok(()),
@@ -247,13 +248,13 @@ fn add_times(
 }
 
 /// Appends the endpoint that came and the address that was asked for.
-fn add_peers(alloc: Global, out: &mut Text, peer: Endpoint, asked: Addr) -> Result<(), AllocError>
-    ensures { OnOk result (out.new ≡ out.old ++ blanked (endpoint_word peer ∷ codes "asked" ∷ addr_word asked ∷ [])) }
+fn add_peers(out: &mut Text, peer: Endpoint, asked: Addr) -> Result<(), AllocError>
+    ensures { OnOk result (out.new ≡ out.old ++ blanked (endpoint_text peer ∷ codes "asked" ∷ addr_text asked ∷ [])) }
 {
     out.push(b' ')?;
-    add_endpoint(alloc, out, peer)?;
+    add_endpoint(out, peer)?;
     out.add(b" asked ")?;
-    add_addr(alloc, out, asked)
+    add_addr(out, asked)
 }
 
 fn kind_word(list: ListKind) -> &'static [u8]

@@ -6,7 +6,6 @@ mod cause;
 mod ending;
 mod event;
 mod hex;
-mod ipv6;
 mod number;
 mod turn;
 
