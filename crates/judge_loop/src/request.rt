@@ -1,9 +1,14 @@
+ghost use Rattle.std.specs.Prelude.{◌≡◌};
+ghost use Rattle.judge_loop.specs.Measured.{asked, local as local_of};
+
 use addr_pattern::{Addr, Endpoint};
 use conf_model::{Command, Method, Version};
 use rule_list::Facts;
 
 /// A port of 127.0.0.1.
-fn local(port: u16) -> Endpoint {
+pub fn local(port: u16) -> Endpoint
+    ensures { result ≡ local_of port }
+{
     Endpoint {
         addr: Addr::V4(0x7f00_0001),
         port,
@@ -11,7 +16,9 @@ fn local(port: u16) -> Endpoint {
 }
 
 /// A CONNECT to port 80 of a client on the same host.
-pub fn request() -> Facts {
+pub fn request() -> Facts
+    ensures { result ≡ asked }
+{
     Facts {
         peer: local(50_000),
         local: local(1080),
