@@ -165,6 +165,7 @@ fresh-turns told counts stands users pubs generation config cap h marks now net 
       behind = r;
       taken' = λ worker. refl;
       dials = refl;
+      lookups = record { lookups = refl; plan = refl };
       plan' = refl;
       outer' = tt;
       stops_c = λ worker. StopsReading.unread (record { behind = r; taken' = refl; unread' = refl });
@@ -207,6 +208,7 @@ fresh-turns told counts stands users pubs generation config cap h marks now net 
       behind = r;
       taken' = λ worker. refl;
       dials = refl;
+      lookups = record { lookups = refl; plan = refl };
       plan' = refl;
       outer' = tt;
       stops_c = λ worker. StopsReading.unread (record { behind = r; taken' = refl; unread' = refl });

@@ -104,6 +104,7 @@ over-desk told counts stands h marks s now net net' a next stood t = record {
   behind = t.behind;
   taken' = t.taken';
   dials = t.dials;
+  lookups = t.lookups;
   plan' = t.plan';
   outer' = t.outer';
   stops_c = t.stops_c;

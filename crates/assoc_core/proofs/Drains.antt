@@ -254,6 +254,7 @@ drain-turns {L} told counts stands users pubs generation config cap h marks now 
   behind = a.state;
   taken' = λ worker. refl;
   dials = desk-dials net.dials _ outer desk;
+  lookups = record { lookups = refl; plan = refl };
   plan' = desk-plan net outer _ desk;
   outer' = desk-outer net _ outer desk;
   stops_c = λ worker. StopsReading.unread (record { behind = a.state; taken' = refl; unread' = ap (reads_client (socks users pubs) (links false false) (links full_c full_t) a.state) closing-a });

@@ -5,7 +5,7 @@ use Rattle.addr_pattern.specs.declared.endpoint.Endpoint.{Endpoint}
 use Rattle.conf_model.specs.declared.config.Config.{Config}
 use Rattle.conf_model.specs.declared.user.User.{User}
 use Rattle.net_ends.specs.Counts.{Counts, Rose}
-use Rattle.net_ends.specs.Nets.{DialOutcome, NetTold, Plan, dialled}
+use Rattle.net_ends.specs.Nets.{DialOutcome, NetTold, Plan, SameLookups, dialled}
 use Rattle.net_ends.specs.Told.{Told}
 use Rattle.rule_list.specs.declared.facts.Facts.{Facts}
 use Rattle.rule_list.specs.declared.verdict.Verdict.{Verdict}
@@ -100,6 +100,7 @@ refuses-turn {L = L} told counts users pubs generation config most h marks net n
       };
       unsent_t = λ e. none-t;
       dials = k.dials;
+      lookups = k.lookups;
       planned = k.planned;
       kept = k.kept;
       told' = sends'.told' ∙ ap (λ (l : L). told_taken (told l) sends'.bytes) k.client';
@@ -184,6 +185,7 @@ greets-turn {L = L} told counts users pubs generation config most h marks net ne
       };
       unsent_t = λ e. absurd (some-clash local e);
       dials = k.dials;
+      lookups = k.lookups;
       planned = k.planned;
       kept = k.kept;
       told' = w.told' ∙ ap (λ (l : L). told_taken (told l) y_c) k.client';
@@ -368,6 +370,7 @@ pub record Dials {L : Type 0} (told : L → Told) (net net' : NetTold) (now : �
   pub to' : Some to ≡ option_map (λ x. x.facts.to) (granted (a.state).decisions)
   pub pushed' : pushed ≡ (a.state).decisions ++ Decision.Reached to None ∷ []
   pub dials : net'.dials ≡ dialled net.dials (record { to = to; outcome = outcome })
+  pub lookups : SameLookups net net'
   pub planned : (plan : Plan) → net.plan ≡ Some plan → outcome ≡ plan.outcome
   pub kept : at_of outcome ≡ None → net'.plan ≡ net.plan
 
@@ -393,6 +396,7 @@ dialled-down told basis net net' now a to pushed o g g' rule facts verdict route
   client' = refl;
   target' = refl;
   dials = k.dials ∙ ap (λ (e : Endpoint). dialled net.dials (record { to = e; outcome = o })) to-is;
+  lookups = k.lookups;
   planned = k.planned;
   kept = k.kept;
 }
@@ -422,6 +426,7 @@ dialled-up told basis net net' now a to local pushed after g g' rule facts verdi
   client' = refl;
   target' = refl;
   dials = k.dials ∙ ap (λ (e : Endpoint). dialled net.dials (record { to = e; outcome = DialOutcome.CameUp local })) to-is;
+  lookups = k.lookups;
   planned = k.planned;
   kept = k.kept;
 }

@@ -6,7 +6,7 @@ use Rattle.addr_pattern.specs.declared.endpoint.Endpoint.{Endpoint}
 use Rattle.conf_model.specs.declared.config.Config.{Config}
 use Rattle.conf_model.specs.declared.user.User.{User}
 use Rattle.net_ends.specs.Counts.{Counts, Rose}
-use Rattle.net_ends.specs.Nets.{DialOutcome, Dial, NetTold, Plan, dialled}
+use Rattle.net_ends.specs.Nets.{DialOutcome, Dial, NetTold, Plan, SameLookups, dialled}
 use Rattle.net_ends.specs.Told.{Told, IsFresh, more}
 use Rattle.rule_list.specs.declared.facts.Facts.{Facts}
 use Rattle.rule_list.specs.declared.verdict.Verdict.{Verdict}
@@ -296,6 +296,7 @@ pub record Reaches {L : Type 0} (told : L → Told) (counts : L → Counts) (d :
   pub writes : ReachWrites d o y_c rest_c (d.sent ++ y_c) rest_t (z.state).sent_t fault unwritten
   pub unsent_t : at_of o ≡ None → (z.state).sent_t ≡ []
   pub dials : net'.dials ≡ dialled net.dials (record { to = (d.asked).to; outcome = o })
+  pub lookups : SameLookups net net'
   pub planned : (plan : Plan) → net.plan ≡ Some plan → o ≡ plan.outcome
   pub kept : at_of o ≡ None → net'.plan ≡ net.plan
   pub told' : told z.client ≡ told_taken (told a.client) y_c
@@ -339,6 +340,7 @@ turns-reached told counts d net net' a z o y_c rest_c rest_t full_c full_t fault
   behind = before d;
   taken' = λ worker. refl;
   dials = subst (λ (p : Phase). DialsAre net.dials net'.dials p (outer_of o)) (sym (phase-before d)) (dials-as o net.dials net'.dials (grant_of d) h.dials);
+  lookups = h.lookups;
   plan' = plan-as d o net net' h.kept;
   outer' = subst (λ (p : Phase). IsOuterOf net p (outer_of o)) (sym (phase-before d)) (outer-as d o net h.planned);
   stops_c = λ worker. StopsReading.unread (record { behind = before d; taken' = refl; unread' = ap (reads_client (basis_of d) [] (links full_c full_t) (before d)) (phase-before d) });

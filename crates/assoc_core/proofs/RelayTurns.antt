@@ -213,6 +213,7 @@ relay-turns {L} told counts stands users pubs generation config cap h marks now 
   behind = relayed a.state p.takes_c.part p.takes_t.part p.takes_c.ends p.takes_t.ends;
   taken' = λ worker. takes-is s.basis generation config.methods (event_of worker a.state.number now acts (mark_of next)) a.state _ (takes p.takes_c.ends p.takes_t.ends read_both);
   dials = desk-dials net.dials _ outer desk;
+  lookups = record { lookups = refl; plan = refl };
   plan' = desk-plan net outer _ desk;
   outer' = desk-outer net _ outer desk;
   stops_c = λ worker. stops-of fault _ p.takes_c (λ e. absurd (cc)) (λ e. ap is_some (sym is_fault) ∙ fault-first (is_read pass.took_c) (is_sound pass.gave_t) (is_read pass.took_t) (is_sound pass.gave_c) e);

@@ -168,6 +168,7 @@ turns-talked told counts stands t now net a next y ends desk idle full fault unw
   behind = h.behind;
   taken' = λ worker. takes-is (basis_of t) t.generation (t.config).methods (talk_event t worker now acts' (mark_of next)) (before t) h.behind h.takes;
   dials = desk-dials net (phase (basis_of t) h.behind) desk;
+  lookups = record { lookups = refl; plan = refl };
   plan' = desk-plan net desk _;
   outer' = desk-is-outer net (phase (basis_of t) h.behind) desk;
   stops_c = λ worker. stops-as false ends idle t.x fault _ _ (λ unread. record {

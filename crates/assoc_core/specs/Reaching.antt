@@ -1,7 +1,7 @@
 -- A granted destination that was dialled.
 use Rattle.std.specs.Prelude.{ℕ, ◌≡◌, ◌<◌, Bool, true, length, drop, Option, Some, None, List, [], ◌∷◌, ◌++◌}
 use Rattle.addr_pattern.specs.declared.endpoint.Endpoint.{Endpoint}
-use Rattle.net_ends.specs.Nets.{DialOutcome, NetTold, Plan, dialled}
+use Rattle.net_ends.specs.Nets.{DialOutcome, NetTold, Plan, SameLookups, dialled}
 use Rattle.net_ends.specs.Counts.{Counts, Later, Rose}
 use Rattle.net_ends.specs.Told.{Told, IsFresh, more}
 use Rattle.rule_list.specs.declared.facts.Facts.{Facts}
@@ -48,6 +48,7 @@ pub record HasDialled {L : Type 0} (told : L → Told) (basis : Basis) (net net'
   pub client' : b.client ≡ a.client
   pub target' : b.target ≡ a.target
   pub dials : net'.dials ≡ dialled net.dials (record { to = facts.to; outcome = outcome })
+  pub lookups : SameLookups net net'
   pub planned : (plan : Plan) → net.plan ≡ Some plan → outcome ≡ plan.outcome
   pub kept : at_of outcome ≡ None → net'.plan ≡ net.plan
 

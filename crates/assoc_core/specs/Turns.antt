@@ -4,7 +4,7 @@ use Rattle.conf_model.specs.declared.config.Config.{Config}
 use Rattle.conf_model.specs.declared.protocol.Command.{Command}
 use Rattle.conf_model.specs.declared.user.User.{User}
 use Rattle.net_ends.specs.Counts.{Counts, Rose}
-use Rattle.net_ends.specs.Nets.{Dial, DialOutcome, NetTold, Plan, dialled}
+use Rattle.net_ends.specs.Nets.{Dial, DialOutcome, NetTold, Plan, SameLookups, dialled}
 use Rattle.net_ends.specs.Told.{Told, Arrival}
 use Rattle.socks_machine.specs.declared.cause.StopBy.{StopBy}
 use Rattle.socks_machine.specs.declared.lines.Line.{Line}
@@ -217,6 +217,7 @@ pub record Turns {L : Type 0} (told : L → Told) (counts : L → Counts) (stand
   pub behind : Record
   pub taken' : (worker : ℕ) → taken s.basis s.generation (s.config).methods (event_of worker a.state.number now acts (mark_of next)) a.state ≡ Some behind
   pub dials : DialsAre net.dials net'.dials (phase s.basis behind) acts.outer
+  pub lookups : SameLookups net net'
   pub plan' : PlanStays net net' acts.outer (is_some (reached_at (result.left).decisions))
   pub outer' : IsOuterOf net (phase s.basis behind) acts.outer
   pub stops_c : (worker : ℕ) → StopsReading a.state.end_c acts.end_c acts.idle_c acts.c acts.fault

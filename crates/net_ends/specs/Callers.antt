@@ -1,9 +1,8 @@
 -- What a caller tells of its calls, and of the wire that came back.
-use Rattle.std.specs.Prelude.{◌≡◌, ℕ, Bool, Option, Some, None, List, [], ◌∷◌, ◌++◌}
+use Rattle.std.specs.Prelude.{◌≡◌, ◌≤◌, ℕ, Bool, Option, Some, None, List, [], ◌∷◌, ◌++◌}
 use Rattle.addr_pattern.specs.declared.endpoint.Endpoint.{Endpoint}
 use Rattle.net_ends.specs.declared.caller.Calling.{Calling}
 use Rattle.net_ends.specs.Counts.{Counts, Rose}
-use Rattle.net_ends.specs.Nets.{DialCounts}
 use Rattle.net_ends.specs.Told.{Told, IsFresh}
 
 -- how a call came out
@@ -52,8 +51,22 @@ abbrev pub called : Option (List Call) → Call → Option (List Call)
 called None call = None
 called (Some calls) call = Some (calls ++ call ∷ [])
 
+-- how often each failure was answered
+pub record CallCounts : Type 0 where
+  pub refused : ℕ
+  pub no_host : ℕ
+  pub no_net : ℕ
+  pub faults : ℕ
+
+-- no count fell
+pub record CallsLater (old new : CallCounts) : Type 0 where
+  pub refused : old.refused ≤ new.refused
+  pub no_host : old.no_host ≤ new.no_host
+  pub no_net : old.no_net ≤ new.no_net
+  pub faults : old.faults ≤ new.faults
+
 -- the count that an outcome names rose
-abbrev pub CallCause : DialCounts → DialCounts → CallOutcome → Type 0
+abbrev pub CallCause : CallCounts → CallCounts → CallOutcome → Type 0
 CallCause old new CameUp = Unit {0}
 CallCause old new WasRefused = Rose old.refused new.refused
 CallCause old new NoHost = Rose old.no_host new.no_host

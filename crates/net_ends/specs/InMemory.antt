@@ -1,10 +1,11 @@
 -- The outside in memory: what each object holds, and what it tells of that.
 use Rattle.std.specs.Prelude.{◌≡◌, ℕ, Bool, true, false, Option, Some, None, List, [], find, option_map, bytes_eq}
 use Rattle.addr_pattern.specs.declared.endpoint.Endpoint.{Endpoint}
-use Rattle.net_ends.specs.Callers.{CallOutcome, CallerTold, returned_of}
+use Rattle.net_ends.specs.declared.net.Lookup.{Lookup}
+use Rattle.net_ends.specs.Callers.{CallCounts, CallOutcome, CallerTold, returned_of}
 use Rattle.net_ends.specs.Counts.{Counts}
 use Rattle.net_ends.specs.Failing.{Failing, none_failing}
-use Rattle.net_ends.specs.Nets.{DialOutcome, NetTold, DialCounts}
+use Rattle.net_ends.specs.Nets.{DialOutcome, NetTold, NetCounts}
 use Rattle.net_ends.specs.Stores.{Files}
 use Rattle.net_ends.specs.Streams.{SourceTold}
 use Rattle.net_ends.specs.Told.{Told}
@@ -57,27 +58,34 @@ pub record IsUnused (link : LinkInMemory) : Type 0 where
   pub unended : link.ended ≡ false
   pub unshut : link.shut ≡ false
 
--- a net: how its next dial comes out, the link that it then gives, and where the last dial went
+-- a net: how its lookups come out, how its next dial comes out, the link that it then gives, which name was looked up last and
+-- where the last dial went
 pub record NetInMemory : Type 0 where
+  pub lookup : Lookup
   pub outcome : DialOutcome
   pub link : LinkInMemory
+  pub last_lookup : Option (List ℕ)
   pub last : Option Endpoint
-  pub counts : DialCounts
+  pub counts : NetCounts
 
--- It tells the plan of its next dial. A dial takes no memory, so it keeps no list of its dials.
+-- It tells how its next lookup comes out, and the plan of its next dial. Neither takes memory, so it keeps no list of them.
 abbrev pub told_of_net : NetInMemory → NetTold
 told_of_net net = record {
+  lookups = None;
   dials = None;
+  lookup_plan = Some net.lookup;
   plan = Some (record { outcome = net.outcome; link = told_of_link net.link });
 }
 
--- its next dial is refused, and the link that waits can take that many bytes
+-- it finds no name, its next dial is refused, and the link that waits can take that many bytes
 abbrev pub fresh_net : ℕ → NetInMemory
 fresh_net cap = record {
+  lookup = Lookup.NotFound;
   outcome = DialOutcome.WasRefused;
   link = fresh_link cap;
+  last_lookup = None;
   last = None;
-  counts = record { refused = 0; no_host = 0; no_net = 0; faults = 0 };
+  counts = record { not_found = 0; refused = 0; no_host = 0; no_net = 0; faults = 0 };
 }
 
 -- what a dial leaves: a link is given once, and then the next dial is refused
@@ -158,7 +166,7 @@ pub record CallerInMemory : Type 0 where
   pub wire : LinkInMemory
   pub last : Option Endpoint
   pub returned : Option LinkInMemory
-  pub counts : DialCounts
+  pub counts : CallCounts
 
 -- It tells the plan of its next call, and all of the wire that came back. It keeps no list of its calls.
 abbrev pub told_of_caller : CallerInMemory → CallerTold

@@ -1,7 +1,8 @@
--- What a net tells of its dials.
+-- What a net tells of its lookups and its dials.
 use Rattle.std.specs.Prelude.{◌≡◌, ◌≤◌, ℕ, Option, Some, None, List, [], ◌∷◌, ◌++◌}
 use Rattle.addr_pattern.specs.declared.endpoint.Endpoint.{Endpoint}
 use Rattle.net_ends.specs.declared.net.Dialing.{Dialing}
+use Rattle.net_ends.specs.declared.net.Lookup.{Lookup}
 use Rattle.net_ends.specs.Counts.{Rose}
 use Rattle.net_ends.specs.Told.{Told}
 
@@ -30,30 +31,55 @@ pub record Plan : Type 0 where
   pub outcome : DialOutcome
   pub link : Told
 
--- the dials so far, where it tells, and the plan of the next
+-- a lookup of a name, with its outcome
+pub record LookedUp : Type 0 where
+  pub name : List ℕ
+  pub outcome : Lookup
+
+-- The lookups and the dials so far, where it tells. A net of memory tells more: how its next lookup comes out, and the plan of
+-- its next dial.
 pub record NetTold : Type 0 where
+  pub lookups : Option (List LookedUp)
   pub dials : Option (List Dial)
+  pub lookup_plan : Option Lookup
   pub plan : Option Plan
+
+abbrev pub looked_up : Option (List LookedUp) → LookedUp → Option (List LookedUp)
+looked_up None lookup = None
+looked_up (Some lookups) lookup = Some (lookups ++ lookup ∷ [])
 
 abbrev pub dialled : Option (List Dial) → Dial → Option (List Dial)
 dialled None dial = None
 dialled (Some dials) dial = Some (dials ++ dial ∷ [])
 
--- how often each failure was answered
-pub record DialCounts : Type 0 where
+-- no name was looked up, and the next lookup comes out as it was to
+pub record SameLookups (old new : NetTold) : Type 0 where
+  pub lookups : new.lookups ≡ old.lookups
+  pub plan : new.lookup_plan ≡ old.lookup_plan
+
+-- how often each failure was answered, whichever call answered it
+pub record NetCounts : Type 0 where
+  pub not_found : ℕ
   pub refused : ℕ
   pub no_host : ℕ
   pub no_net : ℕ
   pub faults : ℕ
 
-pub record DialsLater (old new : DialCounts) : Type 0 where
+-- no count fell
+pub record NetLater (old new : NetCounts) : Type 0 where
+  pub not_found : old.not_found ≤ new.not_found
   pub refused : old.refused ≤ new.refused
   pub no_host : old.no_host ≤ new.no_host
   pub no_net : old.no_net ≤ new.no_net
   pub faults : old.faults ≤ new.faults
 
 -- the count that an outcome names rose
-abbrev pub DialCause : DialCounts → DialCounts → DialOutcome → Type 0
+abbrev pub LookupCause : NetCounts → NetCounts → Lookup → Type 0
+LookupCause old new (Lookup.Found addr) = Unit {0}
+LookupCause old new Lookup.NotFound = Rose old.not_found new.not_found
+LookupCause old new Lookup.Failed = Rose old.faults new.faults
+
+abbrev pub DialCause : NetCounts → NetCounts → DialOutcome → Type 0
 DialCause old new (CameUp local) = Unit {0}
 DialCause old new WasRefused = Rose old.refused new.refused
 DialCause old new NoHost = Rose old.no_host new.no_host

@@ -1,6 +1,5 @@
 ghost use Rattle.std.specs.Prelude.{◌≡◌, Some};
-ghost use Rattle.net_ends.specs.Nets.{DialCounts, DialsLater};
-ghost use Rattle.net_ends.specs.Callers.{CallerTold, PlannedCall, CallCause, IfCalled, IsNewWire, CallsAsPlanned, KeepsPlannedCall, called, outcome_of_call, returned_of};
+ghost use Rattle.net_ends.specs.Callers.{CallerTold, PlannedCall, CallCounts, CallsLater, CallCause, IfCalled, IsNewWire, CallsAsPlanned, KeepsPlannedCall, called, outcome_of_call, returned_of};
 
 use crate::wire::Wire;
 use addr_pattern::Endpoint;
@@ -23,7 +22,7 @@ pub trait Caller {
     ghost told: { Self → CallerTold };
 
     /// How often each failure was answered.
-    ghost counts: { Self → DialCounts };
+    ghost counts: { Self → CallCounts };
 
     fn call(&mut self, to: Endpoint) -> Calling<Self::Wire>
         ensures told { (told self.new).calls ≡ called (told self.old).calls (record { to = to; outcome = outcome_of_call result }) }
@@ -31,7 +30,7 @@ pub trait Caller {
         ensures kept { KeepsPlannedCall result (told self.old).plan (told self.new).plan }
         ensures returned { (told self.new).returned ≡ (told self.old).returned }
         ensures fresh { IfCalled result (λ wire. IsNewWire (Self.Wire.told wire) (Self.Wire.counts wire)) }
-        ensures later { DialsLater (counts self.old) (counts self.new) }
+        ensures later { CallsLater (counts self.old) (counts self.new) }
         ensures cause { CallCause (counts self.old) (counts self.new) (outcome_of_call result) };
 
     /// Takes a wire back, whether it came from here or not.

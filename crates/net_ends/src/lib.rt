@@ -26,7 +26,7 @@ pub use memory_sink::MemSink;
 pub use memory_source::MemSource;
 pub use memory_store::MemStore;
 pub use memory_wire::MemWire;
-pub use net::{Dialing, Net};
+pub use net::{Dialing, Lookup, Net};
 pub use store::{Store, Stored};
 pub use stream::{Giving, Sink, Source, Taking};
 pub use wire::Wire;

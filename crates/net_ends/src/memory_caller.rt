@@ -107,8 +107,7 @@ impl MemCaller {
 impl Caller for MemCaller {
     ghost use Rattle.std.specs.Prelude.{◌≡◌, Some};
     ghost use Rattle.net_ends.specs.InMemory.{told_of_caller, told_of_link, call_left, wire_left};
-    ghost use Rattle.net_ends.specs.Nets.{DialsLater};
-    ghost use Rattle.net_ends.specs.Callers.{PlannedCall, CallCause, IfCalled, IsNewWire, CallsAsPlanned, KeepsPlannedCall, called, outcome_of_call, returned_of};
+    ghost use Rattle.net_ends.specs.Callers.{PlannedCall, CallsLater, CallCause, IfCalled, IsNewWire, CallsAsPlanned, KeepsPlannedCall, called, outcome_of_call, returned_of};
 
     type Wire = MemWire;
 
@@ -122,7 +121,7 @@ impl Caller for MemCaller {
         ensures kept { KeepsPlannedCall result (told_of_caller self.old).plan (told_of_caller self.new).plan }
         ensures returned { (told_of_caller self.new).returned ≡ (told_of_caller self.old).returned }
         ensures fresh { IfCalled result (λ wire. IsNewWire (told_of_link wire) wire.counts) }
-        ensures later { DialsLater self.old.counts self.new.counts }
+        ensures later { CallsLater self.old.counts self.new.counts }
         ensures cause { CallCause self.old.counts self.new.counts (outcome_of_call result) }
 
         // Beside the clauses of the trait: the wire is given once, and the last call is kept.

@@ -1,8 +1,8 @@
-ghost use Rattle.std.specs.Prelude.{◌≡◌, ◌++◌, ◌+◌, true, false, IfOk, OnOk, OnErr};
+ghost use Rattle.std.specs.Prelude.{◌≡◌, ◌++◌, ◌+◌, true, false, IfOk, OnOk, OnErr, option_copied};
 
 use crate::memory_link::MemLink;
-use crate::net::{Dialing, Net};
-use addr_pattern::Endpoint;
+use crate::net::{Dialing, Lookup, Net};
+use addr_pattern::{Endpoint, Name};
 use conf_text::Memory;
 use std::alloc::Global;
 use std::marker::Model;
@@ -20,13 +20,17 @@ pub enum DialPlan {
 }
 
 /// A net that holds the link of its next dial, at which bytes can arrive before the dial. The dial is refused unless another
-/// outcome is planned; once a link was given, the next dial is refused again.
+/// outcome is planned; once a link was given, the next dial is refused again. No name is found unless another outcome is
+/// planned, which each lookup then has.
 #[derive(Drop)]
 pub struct MemNet {
     alloc: Global,
+    lookup: Lookup,
     outcome: DialPlan,
     link: MemLink,
+    last_lookup: Option<Name>,
     last: Option<Endpoint>,
+    not_found: u64,
     refused: u64,
     no_host: u64,
     no_net: u64,
@@ -40,10 +44,12 @@ impl Model for MemNet {
     ghost Value = { NetInMemory };
 
     ghost view = { λ n. record {
+      lookup = n.lookup;
       outcome = planned n.outcome;
       link = n.link;
+      last_lookup = n.last_lookup;
       last = n.last;
-      counts = record { refused = n.refused; no_host = n.no_host; no_net = n.no_net; faults = n.faults };
+      counts = record { not_found = n.not_found; refused = n.refused; no_host = n.no_host; no_net = n.no_net; faults = n.faults };
     } };
 
     ghost invariant = { λ n. IsUnused n.link };
@@ -53,16 +59,19 @@ impl MemNet {
     ghost use Rattle.net_ends.specs.InMemory.{fresh_net};
     ghost use Rattle.net_ends.specs.Plans.{planned};
 
-    /// A net whose next dial is refused. The link that waits in it has room for that many bytes that it takes.
+    /// A net that finds no name and whose next dial is refused. The link that waits in it has room for that many bytes that it takes.
     pub fn make(alloc: Global, cap: usize) -> Result<MemNet, Memory>
         ensures { IfOk result (λ net. net ≡ fresh_net cap) }
     {
         match MemLink::make(alloc, cap) {
             Ok(link) => Ok(MemNet {
                 alloc,
+                lookup: Lookup::NotFound,
                 outcome: DialPlan::Refused,
                 link,
+                last_lookup: None,
                 last: None,
+                not_found: 0,
                 refused: 0,
                 no_host: 0,
                 no_net: 0,
@@ -70,6 +79,13 @@ impl MemNet {
             }),
             Err(memory) => Err(memory),
         }
+    }
+
+    /// Each lookup comes out so from here on.
+    pub fn plan_lookup(&mut self, outcome: Lookup)
+        ensures { self.new ≡ record self.old { lookup = outcome } }
+    {
+        self.lookup = outcome;
     }
 
     /// The next dial comes out so.
@@ -103,6 +119,13 @@ impl MemNet {
         self.link.spare(further)
     }
 
+    /// Which name was looked up last.
+    pub fn last_lookup(&self) -> Option<&Name>
+        ensures { option_copied result ≡ self.now.last_lookup }
+    {
+        self.last_lookup.as_ref()
+    }
+
     /// Where the last dial went.
     pub fn last_dial(&self) -> Option<Endpoint>
         ensures { result ≡ self.now.last }
@@ -114,7 +137,8 @@ impl MemNet {
 impl Net for MemNet {
     ghost use Rattle.std.specs.Prelude.{◌≡◌, Some};
     ghost use Rattle.net_ends.specs.InMemory.{told_of_net, told_of_link, outcome_left, link_left};
-    ghost use Rattle.net_ends.specs.Nets.{Plan, AsPlanned, KeepsPlan, IfUp, DialsLater, DialCause, dialled, outcome_of};
+    ghost use Rattle.net_ends.specs.declared.net.Lookup.{Lookup};
+    ghost use Rattle.net_ends.specs.Nets.{Plan, AsPlanned, KeepsPlan, SameLookups, IfUp, NetLater, LookupCause, DialCause, looked_up, dialled, outcome_of};
     ghost use Rattle.net_ends.specs.Told.{IsFresh};
 
     type Link = MemLink;
@@ -123,18 +147,38 @@ impl Net for MemNet {
 
     ghost counts = { λ net. net.counts };
 
+    fn lookup(&mut self, name: &Name) -> Lookup
+        ensures told { told_of_net self.new ≡ record (told_of_net self.old) { lookups = looked_up (told_of_net self.old).lookups (record { name = name.now; outcome = result }) } }
+        ensures planned { (plan : Lookup) → (told_of_net self.old).lookup_plan ≡ Some plan → result ≡ plan }
+        ensures later { NetLater self.old.counts self.new.counts }
+        ensures cause { LookupCause self.old.counts self.new.counts result }
+
+        // Beside the clauses of the trait: the name is kept, and nothing else changes but the counts.
+        ensures rest { self.new ≡ record self.old { last_lookup = Some name.now; counts = self.new.counts } }
+    {
+        self.last_lookup = Some(name.copy());
+        match self.lookup {
+            Lookup::Found(_) => {}
+            Lookup::NotFound => self.not_found = self.not_found.saturating_add(1),
+            Lookup::Failed => self.faults = self.faults.saturating_add(1),
+        }
+        self.lookup
+    }
+
     fn dial(&mut self, to: Endpoint) -> Dialing<MemLink>
         ensures told { (told_of_net self.new).dials ≡ dialled (told_of_net self.old).dials (record { to = to; outcome = outcome_of result }) }
         ensures planned { (plan : Plan) → (told_of_net self.old).plan ≡ Some plan → AsPlanned told_of_link plan result }
         ensures kept { KeepsPlan result (told_of_net self.old).plan (told_of_net self.new).plan }
+        ensures lookups { SameLookups (told_of_net self.old) (told_of_net self.new) }
         ensures fresh { IfUp result (λ link. IsFresh (told_of_link link)) }
-        ensures later { DialsLater self.old.counts self.new.counts }
+        ensures later { NetLater self.old.counts self.new.counts }
         ensures cause { DialCause self.old.counts self.new.counts (outcome_of result) }
 
         // Beside the clauses of the trait: the link is given once, and the last dial is kept.
         ensures outcome { self.new.outcome ≡ outcome_left self.old.outcome }
         ensures link { self.new.link ≡ link_left self.old.outcome self.old.link }
         ensures last { self.new.last ≡ Some to }
+        ensures last_lookup { self.new.last_lookup ≡ self.old.last_lookup }
     {
         self.last = Some(to);
         match self.outcome {

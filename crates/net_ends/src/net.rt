@@ -1,9 +1,19 @@
 ghost use Rattle.std.specs.Prelude.{◌≡◌, ◌≤◌, Some, List, ℕ, Option};
+ghost use Rattle.net_ends.specs.declared.net.Lookup.{Lookup};
 ghost use Rattle.net_ends.specs.Told.{IsFresh};
-ghost use Rattle.net_ends.specs.Nets.{NetTold, Plan, DialCounts, DialsLater, DialCause, IfUp, AsPlanned, KeepsPlan, dialled, outcome_of};
+ghost use Rattle.net_ends.specs.Nets.{NetTold, Plan, NetCounts, NetLater, LookupCause, DialCause, IfUp, AsPlanned, KeepsPlan, SameLookups, looked_up, dialled, outcome_of};
 
 use crate::link::Link;
-use addr_pattern::Endpoint;
+use addr_pattern::{Addr, Endpoint, Name};
+
+/// What a lookup of a name came to.
+#[derive(Clone, Copy, Debug, PartialEq, Eq)]
+pub enum Lookup {
+    /// The first address that the name has.
+    Found(Addr),
+    NotFound,
+    Failed,
+}
 
 /// What a dial came to.
 #[derive(Drop)]
@@ -16,21 +26,28 @@ pub enum Dialing<L> {
     Failed,
 }
 
-/// What opens links. A dial holds its caller until it has an outcome.
+/// What looks names up and opens links. A lookup and a dial hold their caller until they have an outcome.
 pub trait Net {
     type Link: Link;
 
-    /// The dials so far, where it tells, and the plan of the next.
+    /// The lookups and the dials so far, where it tells, and how the next of each comes out.
     ghost told: { Self → NetTold };
 
     /// How often each failure was answered.
-    ghost counts: { Self → DialCounts };
+    ghost counts: { Self → NetCounts };
+
+    fn lookup(&mut self, name: &Name) -> Lookup
+        ensures told { told self.new ≡ record (told self.old) { lookups = looked_up (told self.old).lookups (record { name = name.now; outcome = result }) } }
+        ensures planned { (plan : Lookup) → (told self.old).lookup_plan ≡ Some plan → result ≡ plan }
+        ensures later { NetLater (counts self.old) (counts self.new) }
+        ensures cause { LookupCause (counts self.old) (counts self.new) result };
 
     fn dial(&mut self, to: Endpoint) -> Dialing<Self::Link>
         ensures told { (told self.new).dials ≡ dialled (told self.old).dials (record { to = to; outcome = outcome_of result }) }
         ensures planned { (plan : Plan) → (told self.old).plan ≡ Some plan → AsPlanned Self.Link.told plan result }
         ensures kept { KeepsPlan result (told self.old).plan (told self.new).plan }
+        ensures lookups { SameLookups (told self.old) (told self.new) }
         ensures fresh { IfUp result (λ link. IsFresh (Self.Link.told link)) }
-        ensures later { DialsLater (counts self.old) (counts self.new) }
+        ensures later { NetLater (counts self.old) (counts self.new) }
         ensures cause { DialCause (counts self.old) (counts self.new) (outcome_of result) };
 }

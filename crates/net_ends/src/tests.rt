@@ -1,5 +1,5 @@
 use super::*;
-use addr_pattern::{Addr, Endpoint};
+use addr_pattern::{Addr, Endpoint, Name};
 use conf_text::Memory;
 use std::alloc::Global;
 use std::test::*;
@@ -101,6 +101,38 @@ fn net_fails_as_planned(rt: HostRuntime) -> Result<(), Fail> {
     assert!(rt; matches!(net.dial(TARGET), Dialing::NetUnreachable));
     net.plan(DialPlan::Failed);
     assert!(rt; matches!(net.dial(TARGET), Dialing::Failed));
+    Ok(())
+}
+
+/// Looks `name` up, and `None` where that is no name.
+fn look_up<N: Net>(net: &mut N, name: &str) -> Option<Lookup> {
+    match Name::read(name.as_bytes()) {
+        Ok(name) => Some(net.lookup(&name)),
+        Err(_) => None,
+    }
+}
+
+#[test]
+fn net_finds_as_planned(rt: HostRuntime) -> Result<(), Fail> {
+    let mut net = MemNet::make(rt.alloc(), 0).ok().ok_or("memory")?;
+    assert!(rt; net.last_lookup().is_none());
+    assert_eq!(rt; look_up(&mut net, "a.test"), Some(Lookup::NotFound));
+    let outcomes = [
+        Lookup::Found(Addr::V4(7)),
+        Lookup::Failed,
+        Lookup::Found(Addr::V6(7)),
+        Lookup::NotFound,
+    ];
+    for outcome in &outcomes {
+        net.plan_lookup(*outcome);
+        assert_eq!(rt; look_up(&mut net, "b.test"), Some(*outcome));
+        assert_eq!(rt; look_up(&mut net, "c.test"), Some(*outcome));
+    }
+    let Some(name) = net.last_lookup() else {
+        return Err("a name was looked up".into());
+    };
+    assert_eq!(rt; name.as_bytes(), b"c.test".as_slice());
+    assert_eq!(rt; net.last_dial(), None);
     Ok(())
 }
 

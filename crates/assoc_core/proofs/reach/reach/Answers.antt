@@ -16,6 +16,7 @@ returns-in-Up g c = if-ok-more c.greet.result _ _ (λ next h' users pubs generat
       to' = search rules;
       pushed' = c.in_ok-push.ensures.ok;
       dials = c.in-Up.ensures.told;
+      lookups = c.in-Up.ensures.lookups;
       planned = λ plan e. (c.in-Up.ensures.planned plan e).outcome;
       kept = λ e. absurd (cc);
     }) c.set_last.ensures standing since uncaused is)
@@ -29,6 +30,7 @@ returns-in-Refused g c = if-ok-more c.refuse.result _ _ (λ next h' users pubs g
       to' = search rules;
       pushed' = c.in_ok-push.ensures.ok;
       dials = c.in-Refused.ensures.told;
+      lookups = c.in-Refused.ensures.lookups;
       planned = λ plan e. (c.in-Refused.ensures.planned plan e).outcome;
       kept = λ e. c.in-Refused.ensures.kept;
     }) refl standing since uncaused is) refl) c.refuse.ensures
@@ -41,6 +43,7 @@ returns-in-HostUnreachable g c = if-ok-more c.refuse-in-HostUnreachable.result _
       to' = search rules;
       pushed' = c.in_ok-push.ensures.ok;
       dials = c.in-HostUnreachable.ensures.told;
+      lookups = c.in-HostUnreachable.ensures.lookups;
       planned = λ plan e. (c.in-HostUnreachable.ensures.planned plan e).outcome;
       kept = λ e. c.in-HostUnreachable.ensures.kept;
     }) refl standing since uncaused is) refl) c.refuse-in-HostUnreachable.ensures
@@ -53,6 +56,7 @@ returns-in-NetUnreachable g c = if-ok-more c.refuse-in-NetUnreachable.result _ _
       to' = search rules;
       pushed' = c.in_ok-push.ensures.ok;
       dials = c.in-NetUnreachable.ensures.told;
+      lookups = c.in-NetUnreachable.ensures.lookups;
       planned = λ plan e. (c.in-NetUnreachable.ensures.planned plan e).outcome;
       kept = λ e. c.in-NetUnreachable.ensures.kept;
     }) refl standing since uncaused is) refl) c.refuse-in-NetUnreachable.ensures
@@ -65,6 +69,7 @@ returns-in-Failed g c = if-ok-more c.refuse-in-Failed.result _ _ (λ next h' use
       to' = search rules;
       pushed' = c.in_ok-push.ensures.ok;
       dials = c.in-Failed.ensures.told;
+      lookups = c.in-Failed.ensures.lookups;
       planned = λ plan e. (c.in-Failed.ensures.planned plan e).outcome;
       kept = λ e. c.in-Failed.ensures.kept;
     }) refl standing since uncaused is) refl) c.refuse-in-Failed.ensures
