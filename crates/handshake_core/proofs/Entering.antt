@@ -4,10 +4,11 @@ use Rattle.std.specs.Prelude.{◌⊎◌}
 use Rattle.std.proofs.lemmas.Bool.Decides.{nat_tests}
 use Rattle.std.proofs.lemmas.Slice.Eq.{bytes_eq-Decides}
 use Rattle.addr_pattern.specs.Equal.{bytes_option_eq}
+use Rattle.addr_pattern.specs.declared.front.BadKind.{BadKind}
 use Rattle.conf_model.specs.declared.protocol.Method.{Method}
 use Rattle.conf_model.specs.declared.protocol.Version.{Version}
 use Rattle.conf_model.specs.declared.user.User.{User}
-use Rattle.conf_model.specs.Grammar.{Read, Asked, Credentials, greeting, login, request4, request5}
+use Rattle.conf_model.specs.Grammar.{Read, Reader, Asked, Credentials, and_then, greeting, login, request4, request5}
 use Rattle.conf_model.specs.Handshake.{Split, split, split_request, split_login, split_greeted, offered, offered_by, login_end, version_of}
 use Rattle.conf_model.specs.Stable.{Extends}
 use Rattle.conf_model.specs.Users.{user_fits}
@@ -19,9 +20,10 @@ use Rattle.handshake_core.specs.declared.state.State.{State}
 use Rattle.handshake_core.specs.Answers.{IsDue}
 use Rattle.handshake_core.specs.Due.{IsOpen, due, method_after, is_place}
 use Rattle.handshake_core.specs.Readers.{AllBytes, Ends, Fine, Tight, shifted}
+use Rattle.handshake_core.specs.Runs.{WantsMore, is_short, is_short_at}
 use Rattle.handshake_core.specs.Standing.{bytes_of, client_of, is_whole, is_login, is_logged, is_over, method_named, stands, stands_at, AtFirst, AtLogin, AtRequest, Greeted, Logged, Unlogged, Hears, HearsByte}
 use Rattle.handshake_core.proofs.Fine.{Anything, greeting-fine, login-fine, request4-fine, request5-fine}
-use Rattle.handshake_core.proofs.Hearing.{after-some, login-done, requests-when}
+use Rattle.handshake_core.proofs.Hearing.{after-some, first-needs, request-needs, login-done, requests-when}
 use Rattle.handshake_core.proofs.Shifting.{login-at, request5-at}
 use Rattle.handshake_core.proofs.Stages.{at-behind, at-five, at-four, split-neither}
 use Rattle.handshake_core.proofs.Tight.{greeting-tight, login-tight}
@@ -214,11 +216,11 @@ unshifted n (Read.Got a at rest) h = cc
 unshifted n Read.Short h = refl
 unshifted n (Read.Wrong at byte kind) h = cc
 
+first-wants : (users : List User) (m : List ℕ) → split users None m ≡ Split.More → version_of m ≡ Some Version.V4 → request4 0 m ≡ Read.Short
+first-wants users m h v = short4 Version.V4 Method.NoAuth None (request4 0 m) (sym (at-four [] users m v).split' ∙ h)
+
 first-room : (users : List User) (m : List ℕ) (v : Option Version) → version_of m ≡ v → is_none (offered m) ≡ true → split users None m ≡ Split.More → AllBytes m → length m < 520
-first-room users m (Some Version.V4) v n h all =
-    let f = at-four [] users m v in
-    let e = short4 Version.V4 Method.NoAuth None (request4 0 m) (sym f.split' ∙ h) in
-    subst (Fine 520 Anything 0 m) e (request4-fine.law 0 m all)
+first-room users m (Some Version.V4) v n h all = subst (Fine 520 Anything 0 m) (first-wants users m h v) (request4-fine.law 0 m all)
 first-room users m (Some Version.V5) v n h all =
     let f = at-five [] users m v in
     let e = short-greeting users (greeting 0 m) n (sym (f.split' None) ∙ h) in
@@ -236,27 +238,67 @@ login-message users s f h all =
     let k : length s.message < 513 = subst (Fine 513 Anything 0 s.message) (short-login users (length s.greeting) (login 0 s.message) f.ends' e) (login-fine.law 0 s.message all) in
     omega (arith, k)
 
-request-message : (users : List User) (s : State) → OnRequest users s → split users s.method (bytes_of s) ≡ Split.More → AllBytes s.message → (xs : List ℕ) → s.message ≡ xs → length s.message < 520
-request-message users s f h all [] e = let k : length s.message ≡ 0 = ap length e in omega (arith, k)
-request-message users s f h all (x ∷ xs) e =
+request-wants : (users : List User) (s : State) → OnRequest users s → split users s.method (bytes_of s) ≡ Split.More → (xs : List ℕ) → s.message ≡ xs → request5 0 s.message ≡ Read.Short
+request-wants users s f h [] e = ap (request5 0) e
+request-wants users s f h (x ∷ xs) e =
     let l : length s.message ≡ suc (length xs) = ap length e in
     let r = requests-when [] users s f.greeted f.logged (omega (arith, l)) in
     let k = length s.greeting + length s.login in
-    let z = unshifted k (request5 0 s.message) (sym (request5-at k s.message) ∙ short4 Version.V5 (method_named s.method) s.user (request5 k s.message) (sym r.split' ∙ h)) in
-    let j : length s.message < 262 = subst (Fine 262 Anything 0 s.message) z (request5-fine.law 0 s.message all) in
+    unshifted k (request5 0 s.message) (sym (request5-at k s.message) ∙ short4 Version.V5 (method_named s.method) s.user (request5 k s.message) (sym r.split' ∙ h))
+
+request-message : (users : List User) (s : State) → OnRequest users s → split users s.method (bytes_of s) ≡ Split.More → AllBytes s.message → length s.message < 520
+request-message users s f h all =
+    let j : length s.message < 262 = subst (Fine 262 Anything 0 s.message) (request-wants users s f h s.message refl) (request5-fine.law 0 s.message all) in
     omega (arith, j)
 
-stage-room : (users : List User) (s : State) (g : Stage) → s.stage ≡ g → stands s ≡ true → IsOpen users (client_of s) → AllBytes s.message → length s.message < 520
-stage-room users s Stage.First e h o all =
-    let f = on-first s h e in
+first-split : (users : List User) (s : State) → OnFirst s → IsOpen users (client_of s) → split users None s.message ≡ Split.More
+first-split users s f o =
     let c : bytes_of s ≡ s.message = rw f.greeting' (rw f.login' refl) in
-    first-room users s.message (version_of s.message) refl f.offered' (sym (ap (split users None) c) ∙ (sym (ap (λ x. split users x (bytes_of s)) f.method') ∙ o.1)) all
+    sym (ap (split users None) c) ∙ (sym (ap (λ x. split users x (bytes_of s)) f.method') ∙ o.1)
+
+stage-wants : (users : List User) (s : State) (g : Stage) → s.stage ≡ g → stands s ≡ true → IsOpen users (client_of s) → WantsMore g s.message
+stage-wants users s Stage.First e h o = first-wants users s.message (first-split users s (on-first s h e) o)
+stage-wants users s Stage.Login e h o = tt
+stage-wants users s Stage.Request e h o = request-wants users s (on-request users s h e o.1) o.1 s.message refl
+stage-wants users s Stage.Over e h o = tt
+
+pub wants : (users : List User) (s : State) → stands s ≡ true → IsOpen users (client_of s) → WantsMore s.stage s.message
+wants users s h o = stage-wants users s s.stage refl h o
+
+stage-room : (users : List User) (s : State) (g : Stage) → s.stage ≡ g → stands s ≡ true → IsOpen users (client_of s) → AllBytes s.message → length s.message < 520
+stage-room users s Stage.First e h o all = let f = on-first s h e in first-room users s.message (version_of s.message) refl f.offered' (first-split users s f o) all
 stage-room users s Stage.Login e h o all = login-message users s (on-login s h e) o.1 all
-stage-room users s Stage.Request e h o all = request-message users s (on-request users s h e o.1) o.1 all s.message refl
+stage-room users s Stage.Request e h o all = request-message users s (on-request users s h e o.1) o.1 all
 stage-room users s Stage.Over e h o all = let k : is_over s.stage ≡ true = ap is_over e in let j = o.0 in cc
 
 pub room : (users : List User) (s : State) → stands s ≡ true → IsOpen users (client_of s) → AllBytes s.message → length s.message + 1 ≤ 520
 room users s h o all = let k = stage-room users s s.stage refl h o all in omega (arith, k)
+
+-- what a client has sent that may send more
+of-parts : (s : State) (n : ℕ) → length s.greeting + (length s.login + length s.message) ≤ n → length (bytes_of s) ≤ n
+of-parts s n h = omega (arith, h, length-append s.greeting (s.login ++ s.message), length-append s.login s.message)
+
+stage-short : (users : List User) (s : State) (g : Stage) → s.stage ≡ g → stands s ≡ true → IsOpen users (client_of s) → AllBytes s.greeting → AllBytes s.login → AllBytes s.message → length (bytes_of s) ≤ 1289
+stage-short users s Stage.First e h o a b c =
+    let f = on-first s h e in
+    let m : length s.message < 520 = stage-room users s Stage.First e h o c in
+    let x : length s.greeting ≡ 0 = ap (λ (z : List ℕ). length z) f.greeting' in
+    let y : length s.login ≡ 0 = ap (λ (z : List ℕ). length z) f.login' in
+    of-parts s 1289 (omega (arith, m, x, y))
+stage-short users s Stage.Login e h o a b c =
+    let f = on-login s h e in
+    let m : length s.message < 520 = stage-room users s Stage.Login e h o c in
+    let x : length s.greeting ≤ 257 = greeting-room s.greeting a f.greeted in
+    let y : length s.login ≡ 0 = ap (λ (z : List ℕ). length z) f.login' in
+    of-parts s 1289 (omega (arith, m, x, y))
+stage-short users s Stage.Request e h o a b c =
+    let m : length s.message < 520 = stage-room users s Stage.Request e h o c in
+    let x : length s.greeting + length s.login ≤ 770 = request-room users s h e o a b in
+    of-parts s 1289 (omega (arith, m, x))
+stage-short users s Stage.Over e h o a b c = let k : is_over s.stage ≡ true = ap is_over e in let j = o.0 in cc
+
+pub short-bytes : (users : List User) (s : State) → stands s ≡ true → IsOpen users (client_of s) → AllBytes s.greeting → AllBytes s.login → AllBytes s.message → length (bytes_of s) ≤ 1289
+short-bytes users s h o a b c = stage-short users s s.stage refl h o a b c
 
 -- ---- the answer
 
@@ -292,3 +334,39 @@ stage-settled methods users s Stage.Over e h o = let k : is_over s.stage ≡ tru
 -- the method is the one that is answered by now
 pub settled : (methods : List Method) (users : List User) (s : State) → stands s ≡ true → IsOpen users (client_of s) → method_after methods s.method (bytes_of s) ≡ s.method
 settled methods users s h o = stage-settled methods users s s.stage refl h o
+
+-- ---- a byte that leaves the message too short
+
+short-is : {A : Type 0} (x : Read A) → is_short x ≡ true → x ≡ Read.Short
+short-is (Read.Got a at rest) h = cc
+short-is Read.Short h = refl
+short-is (Read.Wrong at byte kind) h = cc
+
+four-by : (t : Bool) (b : ℕ) (rest : List ℕ) (next : ℕ → Reader Asked) → and_then (cond t (Read.Got b 1 rest) (Read.Wrong 0 b BadKind.Version)) next ≡ Read.Short → t ≡ true
+four-by true b rest next h = refl
+four-by false b rest next h = cc
+
+four-when : (m : List ℕ) → 0 < length m → request4 0 m ≡ Read.Short → version_of m ≡ Some Version.V4
+four-when [] l h = absurd (omega (arith, l))
+four-when (b ∷ rest) l h = rw (four-by (b == 4) b rest _ h) refl
+
+stage-passes : (methods : List Method) (users : List User) (s : State) (b : ℕ) (g : Stage) → s.stage ≡ g → stands s ≡ true → IsOpen users (client_of s) → is_short_at g (s.message ++ b ∷ []) ≡ true
+    → Hears methods users (with_message s (s.message ++ b ∷ [])) (with_message s (s.message ++ b ∷ [])) Fed.Need
+stage-passes methods users s b Stage.First e h o k =
+    let m = s.message ++ b ∷ [] in
+    let l : length m ≡ length s.message + 1 = length-append s.message (b ∷ []) in
+    let z = short-is (request4 0 m) k in
+    first-needs methods users (with_message s m) (at-first s b m h e refl) (four-when m (omega (arith, l)) z) z
+stage-passes methods users s b Stage.Login e h o k = cc
+stage-passes methods users s b Stage.Request e h o k =
+    let m = s.message ++ b ∷ [] in
+    request-needs methods users (with_message s m) (at-request users s b m h e o refl) (short-is (request5 0 m) k)
+stage-passes methods users s b Stage.Over e h o k = cc
+
+-- nothing is due for such a byte
+pub passes-heard : (methods : List Method) (users : List User) (s : State) (b : ℕ) (m : List ℕ) → m ≡ s.message ++ b ∷ [] → stands s ≡ true → IsOpen users (client_of s) → is_short_at s.stage (s.message ++ b ∷ []) ≡ true
+    → HearsByte methods users s b (with_message s m) Fed.Need
+passes-heard methods users s b m e h o k =
+    let base = stage-passes methods users s b s.stage refl h o k in
+    byte-heard methods users s (with_message s m) b m Fed.Need e
+    (subst (λ (x : List ℕ). Hears methods users (with_message s x) (with_message s x) Fed.Need) (sym e) base)

@@ -10,7 +10,7 @@ use Rattle.addr_pattern.specs.declared.front.BadKind.{BadKind}
 use Rattle.conf_model.specs.declared.protocol.Method.{Method}
 use Rattle.conf_model.specs.declared.protocol.Version.{Version}
 use Rattle.conf_model.specs.declared.user.User.{User}
-use Rattle.conf_model.specs.Grammar.{Read, Asked, Credentials, method_byte, greeting, login, request5}
+use Rattle.conf_model.specs.Grammar.{Read, Asked, Credentials, method_byte, greeting, login, request4, request5}
 use Rattle.conf_model.specs.Handshake.{Split, split, split_request, split_login, split_answered, split_greeted, request_of, offered, offered_by, greeting_length, login_place, login_end, version_of}
 use Rattle.conf_model.specs.Users.{user_fits}
 use Rattle.conf_model.proofs.GrammarLaws.{login-stable}
@@ -36,7 +36,7 @@ use Rattle.user_login.specs.Messages.{part, credentials_at, IsLogin, IsOtherVers
 use Rattle.handshake_core.specs.Readers.{AllBytes, Fine}
 use Rattle.handshake_core.proofs.Fine.{Anything, request5-fine}
 use Rattle.handshake_core.proofs.Shifting.{login-at, request5-at}
-use Rattle.handshake_core.proofs.Stages.{at-behind, at-five, at-neither, choose-is, due_greeted, got-extends, refused-bad}
+use Rattle.handshake_core.proofs.Stages.{at-behind, at-five, at-four, at-neither, choose-is, due_greeted, got-extends, refused-bad}
 
 same : (n : ℕ) → (n == n) ≡ true
 same n = grind (arith, nat_tests)
@@ -188,6 +188,16 @@ first-after methods s h e =
 
 first-due : (methods : List Method) (users : List User) (s : State) → AtFirst s → due methods users s.method (bytes_of s) ≡ due methods users None s.message
 first-due methods users s h = ap (λ x. due methods users x (bytes_of s)) h.method' ∙ ap (due methods users None) (first-bytes s h)
+
+first-stands : (s : State) → AtFirst s → offered s.message ≡ None → stands s ≡ true
+first-stands s h e = ap (λ g. stands_at g s) h.stage' ∙ (rw h.greeting' (rw h.login' (rw h.method' (rw h.user' (rw e refl)))))
+
+pub first-needs : (methods : List Method) (users : List User) (s : State) → AtFirst s → version_of s.message ≡ Some Version.V4 → request4 0 s.message ≡ Read.Short → Hears methods users s s Fed.Need
+first-needs methods users s h v e =
+    let f = at-four methods users s.message v in
+    let x = ap (split_request Version.V4 Method.NoAuth None) e in
+    hears-need methods users s (first-after methods s h f.offered') (first-due methods users s h ∙ (f.due' ∙ ap (due_at None None s.message) x)) (ap is_over h.stage')
+    (ap (λ k. split users k (bytes_of s)) h.method' ∙ (ap (split users None) (first-bytes s h) ∙ (f.split' ∙ x))) (first-stands s h f.offered')
 
 pub first-neither : (methods : List Method) (users : List User) (s new : State) (fed : Fed) (say shown : List ℕ) → AtFirst s → shown ≡ s.message → 0 < length s.message → version_of s.message ≡ None → say ≡ []
     → Refuses s new (Cause.BadVersion 0 (get_or shown 0 0)) say fed → Hears methods users s new fed

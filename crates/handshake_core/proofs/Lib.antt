@@ -7,3 +7,7 @@ pub mod Stages
 pub mod Hearing
 pub mod Entering
 pub mod Feeding
+pub mod Taking
+pub mod Whole
+pub mod Lengths
+pub mod Running

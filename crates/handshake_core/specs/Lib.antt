@@ -4,3 +4,7 @@ pub mod Answers
 pub mod Asking
 pub mod Standing
 pub mod Refusing
+pub mod Taking
+pub mod Whole
+pub mod Lengths
+pub mod Runs

@@ -22,7 +22,7 @@ pub struct Asked {
     pub port: u16,
 }
 
-/// The host that a name in a request is.
+/// A name that is the text of an address is that address.
 fn host_at(bytes: &[u8], name: Span) -> Host
     requires { IsNameAt bytes.now name }
     ensures { result ≡ host_of (slice_range bytes.now name.at (name.at + name.len)) }
@@ -33,7 +33,7 @@ fn host_at(bytes: &[u8], name: Span) -> Host
     }
 }
 
-/// The host of a request of version 4.
+/// The address is passed over where a name stands (the SOCKS 4A memo).
 fn host4(bytes: &[u8], addr: u32, name: Option<Span>) -> Host
     requires { IsNameAt4 bytes.now name }
     ensures { result ≡ host_named addr (option_map (bytes_in bytes.now) name) }
@@ -63,7 +63,7 @@ pub fn read_asked4(bytes: &[u8]) -> Front<Asked>
     }
 }
 
-/// The host of a request of version 5.
+/// An address is taken as it stands (RFC 1928, section 5).
 fn host5(bytes: &[u8], host: HostAt) -> Host
     requires { IsHostAt bytes.now host }
     ensures { result ≡ meant (host_in bytes.now host) }

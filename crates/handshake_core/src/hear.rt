@@ -17,13 +17,12 @@ use crate::request::Request;
 use crate::state::{Stage, State};
 use addr_pattern::{Front, Name, Short};
 use conf_model::{Method, Version};
-use conf_text::List;
 use socks_machine::Cause;
 use socks5_codec::read_greeting;
 use std::mem;
 use user_login::{LoginAt, Users, read_login};
 
-/// Ends with a request whose prelude has this length.
+/// After a request no more is heard. The length is that of the whole prelude.
 fn ask(state: &mut State, version: Version, method: Method, asked: Asked, len: usize) -> Fed
     ensures { Asks state.old state.new version method asked len result }
 {
@@ -45,7 +44,7 @@ fn ask(state: &mut State, version: Version, method: Method, asked: Asked, len: u
     })
 }
 
-/// A request of version 4.
+/// No greeting stands before a request of version 4, and none of its bytes is answered alone.
 fn hear4(state: &mut State) -> Fed
     requires at { AtFirst state.old }
     requires four { version_of state.old.message ≡ Some SomeVersion.V4 }
@@ -78,7 +77,7 @@ fn choose(methods: &[Method], offered: &[u8]) -> u8
     }
 }
 
-/// The method that is answered to a whole greeting, or None where more has to come.
+/// Answers this method to a whole greeting. After FF no more is heard (RFC 1928, section 3).
 fn greet(state: &mut State, method: u8) -> Fed
     ensures { Greets state.old method state.new result }
 {
@@ -95,8 +94,8 @@ fn greet(state: &mut State, method: u8) -> Fed
     Fed::Say(short(&[5, method]))
 }
 
-/// A greeting.
-fn hear_greeting(state: &mut State, methods: &List<Method>) -> Fed
+/// A greeting is answered with its last byte, also where it offers no method (RFC 1928, section 3).
+fn hear_greeting(state: &mut State, methods: &[Method]) -> Fed
     requires at { AtFirst state.old }
     requires five { version_of state.old.message ≡ Some SomeVersion.V5 }
     ensures { (users : Items User) → Hears methods.now users state.old state.new result }
@@ -110,14 +109,14 @@ fn hear_greeting(state: &mut State, methods: &List<Method>) -> Fed
         }
         Front::Whole { value, .. } => {
             let offered = &bytes[value.methods.at..value.methods.at + value.methods.len];
-            let method = choose(methods.as_slice(), offered);
+            let method = choose(methods, offered);
             greet(state, method)
         }
     }
 }
 
-/// The first message.
-fn hear_first(state: &mut State, methods: &List<Method>) -> Fed
+/// The first byte says which message it is; any byte but 04 and 05 is refused with no answer.
+fn hear_first(state: &mut State, methods: &[Method]) -> Fed
     requires at { AtFirst state.old }
     requires some { 0 < length state.old.message }
     ensures { (users : Items User) → Hears methods.now users state.old state.new result }
@@ -130,7 +129,7 @@ fn hear_first(state: &mut State, methods: &List<Method>) -> Fed
     }
 }
 
-/// The name of the user that a login is of.
+/// None where no user has this name and this password.
 fn user_named(users: &Users, name: &[u8], password: &[u8]) -> Option<Name>
     ensures { MatchOption result (user_fits users.now name.now password.now ≡ false) (λ user. (user_fits users.now name.now password.now ≡ true) × (user ≡ name.now)) }
 {
@@ -140,7 +139,7 @@ fn user_named(users: &Users, name: &[u8], password: &[u8]) -> Option<Name>
     }
 }
 
-/// A login.
+/// A login is answered with its last byte. Another version is refused as a login that failed (RFC 1929, section 2).
 fn hear_login(state: &mut State, users: &Users) -> Fed
     requires { AtLogin state.old }
     ensures { (methods : Items SomeMethod) → Hears methods users.now state.old state.new result }
@@ -170,7 +169,7 @@ fn hear_login(state: &mut State, users: &Users) -> Fed
     }
 }
 
-/// The method that was answered, where one was agreed upon.
+/// Any other code than 02 stands for no login: behind FF no request is read.
 fn method_of(code: Option<u8>) -> Method
     ensures { result ≡ method_named code }
 {
@@ -180,7 +179,7 @@ fn method_of(code: Option<u8>) -> Method
     }
 }
 
-/// A request of version 5.
+/// Places and the length count from the first byte of the prelude.
 fn hear5(state: &mut State) -> Fed
     requires { length state.old.greeting + length state.old.login ≤ 770 }
     ensures { (methods : Items SomeMethod) (users : Items User) → AtRequest users state.old → Hears methods users state.old state.new result }
@@ -201,15 +200,15 @@ fn hear5(state: &mut State) -> Fed
     }
 }
 
-/// The items of a slice of bytes are bytes.
-fn are_bytes(bytes: &[u8])
+/// Changes nothing: a look at the slice tells the proof that its items are below 256.
+pub fn are_bytes(bytes: &[u8])
     ensures { AllBytes bytes.now }
 {
     let _first = bytes.first();
 }
 
-/// The next byte.
-pub fn hear(state: &mut State, methods: &List<Method>, users: &Users, byte: u8) -> Fed
+/// Takes one more byte, and reads the message from its front.
+pub fn hear(state: &mut State, methods: &[Method], users: &Users, byte: u8) -> Fed
     requires stands { stands state.old ≡ true }
     requires open { IsOpen users.now (client_of state.old) }
     ensures { HearsByte methods.now users.now state.old byte state.new result }

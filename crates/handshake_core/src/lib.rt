@@ -5,13 +5,21 @@ mod asked;
 mod fed;
 mod handshake;
 mod hear;
+mod length;
 mod refuse;
 mod request;
+mod run;
+mod split;
 mod state;
+mod take;
+mod taken;
 
 pub use fed::Fed;
 pub use handshake::Handshake;
+pub use length::{prelude_ends, prelude_length};
 pub use request::Request;
+pub use split::{is_served_input, whole_request};
+pub use taken::Taken;
 
 #[cfg(test)]
 mod tests;

@@ -49,7 +49,7 @@ pub fn bad_cause(before: usize, bad: &BadAt) -> Cause
     }
 }
 
-/// These bytes as a text in place.
+/// An answer of two bytes (RFC 1928, section 3, and RFC 1929, section 2).
 pub fn short(bytes: &[u8; 2]) -> Short
     ensures { result ≡ bytes.now }
 {
@@ -58,7 +58,7 @@ pub fn short(bytes: &[u8; 2]) -> Short
     text
 }
 
-/// Ends with a refusal.
+/// After a refusal no more is heard.
 pub fn refuse(state: &mut State, cause: Cause, say: Short) -> Fed
     ensures { Refuses state.old state.new cause say result }
 {

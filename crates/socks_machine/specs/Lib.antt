@@ -30,3 +30,4 @@ pub mod Theorems
 pub mod Transcript
 pub mod Turn
 pub mod View
+pub mod Inputs

@@ -80,6 +80,26 @@ impl Users {
         Ok(Users { users: Some(users) })
     }
 
+    /// Equal users. An `AllocError` comes where memory is refused.
+    pub fn from_slice(alloc: Global, users: &[User]) -> Result<Users, AllocError>
+        requires { are_users users.now ≡ true }
+        ensures { IfOk result (λ copy. copy ≡ users.now) }
+    {
+        let users = copy_users(alloc, users)?;
+        Ok(Users { users: Some(users) })
+    }
+
+    /// The users as a list, in the order of their file; nothing is copied.
+    pub fn into_list(self, alloc: Global) -> List<User>
+        ensures { result ≡ self }
+    {
+        let Users { users } = self;
+        match users {
+            None => List::make(alloc),
+            Some(users) => users,
+        }
+    }
+
     /// The users in the order of their file, as their numbers count them from 1.
     pub fn as_slice(&self) -> &[User]
         ensures value { result.now ≡ self.now }
@@ -122,8 +142,7 @@ impl Users {
     pub fn copy(&self, alloc: Global) -> Result<Users, AllocError>
         ensures { IfOk result (λ copy. copy ≡ self.now) }
     {
-        let users = copy_users(alloc, self.as_slice())?;
-        Ok(Users { users: Some(users) })
+        Users::from_slice(alloc, self.as_slice())
     }
 }
 
