@@ -5,6 +5,7 @@ use std::test::*;
 const OTHER_WORDS: &[&[&str]] = &[
     &[],
     &["play"],
+    &["tunnel"],
     &["replays"],
     &["replay", "replay"],
     &["replay", ""],
