@@ -1,15 +1,13 @@
 -- Which configurations are served.
-use Rattle.std.specs.Prelude.{◌≡◌, None, [], ◌∷◌, All}
+use Rattle.std.specs.Prelude.{◌≡◌, None, All}
 use Rattle.conf_model.specs.declared.config.Config.{Config}
-use Rattle.conf_model.specs.declared.protocol.Method.{Method}
 use Rattle.conf_model.specs.declared.route.Route.{Route}
 use Rattle.conf_model.specs.declared.route.Via.{Via}
 use Rattle.conf_model.specs.declared.rule.ClientRule.{ClientRule}
 use Rattle.conf_model.specs.declared.rule.SocksRule.{SocksRule}
 
--- no login, no proxy, and no limit on sessions
+-- no proxy, and no limit on sessions
 pub record IsPlain (k : Config) : Type 0 where
-  pub methods : k.methods ≡ Method.NoAuth ∷ []
   pub routes : All (λ (r : Route). r.via ≡ Via.Direct) k.routes
   pub client : All (λ (r : ClientRule). r.max ≡ None) k.client
   pub socks : All (λ (r : SocksRule). r.max ≡ None) k.socks

@@ -10,4 +10,5 @@ pub mod Feeding
 pub mod Taking
 pub mod Whole
 pub mod Lengths
+pub mod Places
 pub mod Running

@@ -1,5 +1,5 @@
 -- What the readers of messages find, put together to the request of a whole input.
-use Rattle.std.proofs.Common.{ℕ, zero, suc, ◌≡◌, ◌≤◌, ◌+◌, ◌-◌, Bool, true, false, Option, Some, None, List, [], ◌∷◌, length, drop, take, refl, sym, subst, ap, ◌∙◌, arith}
+use Rattle.std.proofs.Common.{ℕ, zero, suc, ◌≡◌, ◌≤◌, ◌+◌, ◌-◌, Bool, true, false, Option, Some, None, is_some, List, [], ◌∷◌, length, drop, take, refl, sym, subst, ap, ◌∙◌, arith}
 use Rattle.std.specs.Prelude.{slice_range}
 use Rattle.std.proofs.lemmas.List.{drop-drop, length-drop, take_all}
 use Rattle.addr_pattern.specs.declared.front.Front.{Front}
@@ -8,7 +8,7 @@ use Rattle.conf_model.specs.declared.protocol.Version.{Version}
 use Rattle.conf_model.specs.declared.user.User.{User}
 use Rattle.conf_model.specs.Fronts.{IsFront}
 use Rattle.conf_model.specs.Grammar.{Read, Asked, Credentials, greeting, login, request4, request5}
-use Rattle.conf_model.specs.Handshake.{Split, split_request, split_login, split_greeted, request_of}
+use Rattle.conf_model.specs.Handshake.{Split, split_request, split_login, split_greeted, request_of, login_end}
 use Rattle.conf_model.specs.Users.{user_fits}
 use Rattle.socks5_codec.specs.declared.message.Greeting.{Greeting}
 use Rattle.socks5_codec.specs.Reads.{OnGreeting}
@@ -190,3 +190,19 @@ login-ends bytes at l len n h e = e ∙ sym (ap logged_end (login-is bytes at l 
 pub login-ends-missing : (bytes : List ℕ) (at : ℕ) (r : Front LoginAt) → OnLogin (rest_of bytes at) r → ((value : LoginAt) (len : ℕ) → r ≡ Front.Whole value len → ⊥) → 0 ≡ logged_end (login at (drop at bytes))
 login-ends-missing bytes at r h none =
     sym (ap logged_end (login-place bytes at) ∙ login-ends-nowhere (shifted at (login 0 (rest_of bytes at))) (further at (login 0 (rest_of bytes at)) (login-unfound (rest_of bytes at) r h none)))
+
+-- ---- whether a login is whole
+
+pub has-login : (bytes : List ℕ) (at : ℕ) (l : LoginAt) (len : ℕ) → IsLogin (rest_of bytes at) l len → is_some (login_end (login at (drop at bytes))) ≡ true
+has-login bytes at l len h = ap (λ x. is_some (login_end x)) (login-is bytes at l len h)
+
+no-login-end : (x : Read Credentials) → NotGot x → is_some (login_end x) ≡ false
+no-login-end (Read.Got l at rest) h = absurd h
+no-login-end Read.Short h = refl
+no-login-end (Read.Wrong at byte kind) h = refl
+
+pub has-no-login : (bytes : List ℕ) (at : ℕ) (r : Front LoginAt) → OnLogin (rest_of bytes at) r → ((value : LoginAt) (len : ℕ) → r ≡ Front.Whole value len → ⊥)
+    → is_some (login_end (login at (drop at bytes))) ≡ false
+has-no-login bytes at r h none =
+    ap (λ x. is_some (login_end x)) (login-place bytes at)
+    ∙ no-login-end (shifted at (login 0 (rest_of bytes at))) (further at (login 0 (rest_of bytes at)) (login-unfound (rest_of bytes at) r h none))

@@ -1,5 +1,5 @@
 -- How long the prelude is at the front of a whole input, whoever its user is.
-use Rattle.std.specs.Prelude.{ℕ, ◌≡◌, ◌==◌, if◌then◌else◌, Option, Some, List, [], ◌∷◌}
+use Rattle.std.specs.Prelude.{ℕ, ◌≡◌, ◌≤◌, ◌==◌, if◌then◌else◌, Option, Some, List, [], ◌∷◌, length}
 use Rattle.conf_model.specs.declared.user.User.{User}
 use Rattle.conf_model.specs.Grammar.{Read, Asked, Credentials, greeting, login, request4, request5}
 use Rattle.conf_model.specs.Handshake.{Request, Split, split}
@@ -32,3 +32,7 @@ prelude_end method (b ∷ bytes) =
 -- a whole prelude ends there
 abbrev pub IsLengthOfPrelude : Type 0
 IsLengthOfPrelude = (users : List User) (method : Option ℕ) (bytes : List ℕ) (q : Request) (n : ℕ) → split users method bytes ≡ Split.Whole q n → prelude_end method bytes ≡ n
+
+-- no prelude is longer than its input
+abbrev pub EndsWithin : Type 0
+EndsWithin = (method : Option ℕ) (bytes : List ℕ) → prelude_end method bytes ≤ length bytes

@@ -41,3 +41,11 @@ shifted n (Read.Wrong at byte kind) = Read.Wrong (n + at) byte kind
 -- a reader reads the same from every place on
 pub record IsShifting {A : Type 0} (read : Reader A) : Type 0 where
   pub law : (n at : ℕ) (bytes : List ℕ) → read (n + at) bytes ≡ shifted n (read at bytes)
+
+-- what is found and what is left are all the bytes
+abbrev pub Counted : {A : Type 0} → ℕ → List ℕ → Read A → Type 0
+Counted from bytes (Read.Got a at rest) = at + length rest ≡ from + length bytes
+Counted from bytes _ = Unit {0}
+
+pub record IsCounted {A : Type 0} (read : Reader A) : Type 0 where
+  pub law : (at : ℕ) (bytes : List ℕ) → Counted at bytes (read at bytes)

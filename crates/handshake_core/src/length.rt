@@ -1,7 +1,8 @@
 //! The length of the prelude at the front of a whole input.
-ghost use Rattle.std.specs.Prelude.{◌≡◌, ◌≤◌, Some, drop, length};
+ghost use Rattle.std.specs.Prelude.{◌≡◌, ◌≤◌, Some, drop, is_some, length};
 ghost use Rattle.conf_model.specs.Grammar.{greeting, login, request4, request5};
-ghost use Rattle.handshake_core.specs.Lengths.{asked_end, logged_end, greeted_end, prelude_end, IsLengthOfPrelude};
+ghost use Rattle.conf_model.specs.Handshake.{greeting_length as length_of_greeting, login_end, login_place};
+ghost use Rattle.handshake_core.specs.Lengths.{asked_end, logged_end, greeted_end, prelude_end, IsLengthOfPrelude, EndsWithin};
 
 use crate::asked::{read_asked4, read_asked5};
 use addr_pattern::Front;
@@ -66,7 +67,36 @@ pub fn prelude_length(method: Option<u8>, bytes: &[u8]) -> usize
     }
 }
 
-/// A whole prelude has this length. It does nothing; its contract is the law.
+/// The length in bytes of a client's greeting, and 0 where it isn't whole (RFC 1928, section 3).
+pub fn greeting_length(bytes: &[u8]) -> usize
+    ensures { result ≡ length_of_greeting bytes.now }
+{
+    match read_greeting(bytes) {
+        Front::Whole { len, .. } => len,
+        _ => 0,
+    }
+}
+
+/// Whether a login is whole at this place (RFC 1929, section 2).
+fn has_login_at(bytes: &[u8], at: usize) -> bool
+    requires { at ≤ length bytes.now }
+    ensures { result ≡ is_some (login_end (login at (drop at bytes.now))) }
+{
+    matches!(read_login(&bytes[at..]), Front::Whole { .. })
+}
+
+/// Whether a greeting with a login behind it stands at the front of a client's input, whole (RFC 1929, section 2).
+pub fn has_login(bytes: &[u8]) -> bool
+    ensures { result ≡ is_some (login_place bytes.now) }
+{
+    match read_greeting(bytes) {
+        Front::Whole { len, .. } => has_login_at(bytes, len),
+        _ => false,
+    }
+}
+
+/// A whole prelude has this length, and no prelude is longer than its input. It does nothing; its contract is the laws.
 pub fn prelude_ends()
-    ensures { IsLengthOfPrelude }
+    ensures length { IsLengthOfPrelude }
+    ensures within { EndsWithin }
 {}

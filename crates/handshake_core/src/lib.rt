@@ -16,7 +16,7 @@ mod taken;
 
 pub use fed::Fed;
 pub use handshake::Handshake;
-pub use length::{prelude_ends, prelude_length};
+pub use length::{greeting_length, has_login, prelude_ends, prelude_length};
 pub use request::Request;
 pub use split::{is_served_input, whole_request};
 pub use taken::Taken;
