@@ -52,7 +52,7 @@ abbrev s : Context
 s = record { basis = socks [] []; generation = 1; config = config (Method.NoAuth ∷ []) (client_rule true any any ∷ []) (socks_rule true any any None ∷ []) []; cap = 9; h = []; marks = [] }
 
 holds : RelayFacts s r
-holds = relay-facts s r (record { generation = 1; method = 0 }) refl refl refl refl refl refl refl refl refl (omega arith)
+holds = relay-facts s r refl refl refl refl refl refl refl (omega arith)
 
 abbrev e : TurnEvent
 e = begun_event 0 1 7 None

@@ -20,7 +20,6 @@ pub mod Ranges
 pub mod Relaying
 pub mod Replies
 pub mod Script
-pub mod Served
 pub mod Settle
 pub mod Socks
 pub mod Stands
