@@ -143,6 +143,7 @@ fresh-turns told counts stands users pubs generation config cap h marks now net 
         sent_u = refl;
         served = refl;
         chosen' = refl;
+        failed = refl;
         decided = record { untargeted = record { t = refl; sent_t = refl; end_t = refl; shut_c = refl; shut_t = refl }; talks = λ none. (refl, refl) };
         sent_c = (owed_c x, refl);
         sent_t = (owed_t x, refl);
@@ -224,9 +225,9 @@ fresh-turns told counts stands users pubs generation config cap h marks now net 
     }
 
 -- nothing was decided, so nothing has happened
-unbegun : (r : Record) (ds : List Decision) → ds ≡ [] → HasDecided r ds → r ≡ fresh r.number r.peer r.local r.since
-unbegun r [] e h = h
-unbegun r (d ∷ ds) e h = absurd (cc)
+unbegun : (users : List User) (r : Record) (ds : List Decision) → ds ≡ [] → HasDecided users r ds → r ≡ fresh r.number r.peer r.local r.since
+unbegun users r [] e h = h
+unbegun users r (d ∷ ds) e h = absurd (cc)
 
 pub accepts : {L : Type 0} (told : L → Told) (counts : L → Counts) (stands : List Line → List StopBy → Type 0)
     (users : List User) (pubs : List Config) (generation : ℕ) (config : Config) (cap : ℕ) (h : List Line) (marks : List StopBy) (now : ℕ) (net : NetTold) (a : Assoc L)
@@ -241,7 +242,7 @@ accepts told counts stands users pubs generation config cap h marks now net a lo
     (subst (λ (r : Record). Stands told (socks users pubs) (with_state a r)) is k))
   where
     is : a.state ≡ fresh (a.state).number (a.state).peer (a.state).local now
-    is = unbegun a.state (a.state).decisions none (k.plain).decided ∙ ap (fresh (a.state).number (a.state).peer (a.state).local) since
+    is = unbegun users a.state (a.state).decisions none (k.plain).decided ∙ ap (fresh (a.state).number (a.state).peer (a.state).local) since
 
 -- ---- as the code has it
 

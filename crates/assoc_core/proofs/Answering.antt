@@ -5,6 +5,7 @@ use Rattle.std.proofs.Math.Seq.{drop-append_seam}
 use mathlib.Core.List.{IsPrefix}
 use Rattle.conf_model.specs.declared.config.Config.{Config}
 use Rattle.conf_model.specs.declared.user.User.{User}
+use Rattle.conf_model.specs.Handshake.{Split}
 use Rattle.net_ends.specs.Counts.{Counts, Rose}
 use Rattle.net_ends.specs.Nets.{NetTold}
 use Rattle.net_ends.specs.Told.{Told, more}
@@ -20,7 +21,7 @@ use Rattle.socks_machine.specs.InTurn.{Reading, Takes}
 use Rattle.socks_machine.specs.Owed.{owed_to_client, pending_to_client}
 use Rattle.socks_machine.specs.Phase.{Phase, phase, is_udp}
 use Rattle.socks_machine.specs.Settle.{is_nothing}
-use Rattle.socks_machine.specs.Socks.{socks, chosen_reply}
+use Rattle.socks_machine.specs.Socks.{socks}
 use Rattle.socks_machine.specs.Taking.{reads_target, holds}
 use Rattle.socks_machine.specs.Turn.{turn, quantum, marked, took_quantum, rests, rests_in, reads_in, has_pending, may_be_shut, may_write}
 use Rattle.socks_machine.proofs.ActLaws.{still-open}
@@ -31,18 +32,18 @@ use Rattle.assoc_core.specs.declared.assoc.Next.{Next}
 use Rattle.assoc_core.specs.declared.hear.Heard.{Heard}
 use Rattle.assoc_core.specs.declared.send.Sent.{Sent}
 use Rattle.assoc_core.specs.Closing.{Closed}
-use Rattle.assoc_core.specs.Hearing.{HasHeard, is_decided}
-use Rattle.assoc_core.specs.Plain.{IsPlainRecord, owed_c}
+use Rattle.assoc_core.specs.Hearing.{HasHeard}
+use Rattle.assoc_core.specs.Plain.{IsPlainRecord, owed_c, is_failed_split}
 use Rattle.assoc_core.specs.Sending.{Sends, SendEnds}
 use Rattle.assoc_core.specs.Stands.{GivesFirst}
 use Rattle.assoc_core.specs.Turns.{Turns, StopsReading, links, context, IsIdle, IsFull}
 use Rattle.assoc_core.proofs.LinksHeld.{short}
 use Rattle.assoc_core.proofs.Sendings.{rose-before, rose-after}
 use Rattle.assoc_core.proofs.PlainRecords.{and-false}
-use Rattle.assoc_core.proofs.Talking.{Hearing, heard_takings, basis_of, context_of, before, heard, answered, takes-open, settled-undecided, heard-nothing, heard-unwhole, phase-undecided}
+use Rattle.assoc_core.proofs.Talking.{Hearing, heard_takings, basis_of, context_of, before, heard, split_heard, takes-open, settled-more, heard-nothing, phase-more}
 use Rattle.assoc_core.proofs.TalkTurns.{turns-talked, talk_acts, talk_event, heard_told}
 use Rattle.assoc_core.proofs.TalkCloses.{turns-closed, caused, talk-stages}
-use Rattle.assoc_core.proofs.HeardTurns.{hearing_of, behind-is, stands-before, turns-before, owes-caused, owes-fault, plain-caused, first-sent, short-heard}
+use Rattle.assoc_core.proofs.HeardTurns.{Fits, hearing_of, behind-is, heard-as, stands-before, turns-before, owes_now, owes-caused, owes-fault, plain-caused, first-sent}
 
 -- ---- what was sent
 
@@ -52,7 +53,7 @@ drop-back sent owed p = ap (λ z. sent ++ drop (length sent) z) (sym p.1) ∙ (a
 pub all-owed : (sent y rest owed : List ℕ) → IsPrefix sent owed → y ++ rest ≡ drop (length sent) owed → (sent ++ y) ++ rest ≡ owed
 all-owed sent y rest owed p e = append_assoc sent y rest ∙ (ap (λ z. sent ++ z) e ∙ drop-back sent owed p)
 
-nothing-left : (sent owed : List ℕ) → sent ++ [] ≡ owed → is_nothing (drop (length sent) owed) ≡ true
+pub nothing-left : (sent owed : List ℕ) → sent ++ [] ≡ owed → is_nothing (drop (length sent) owed) ≡ true
 nothing-left sent owed e = ap (λ z. is_nothing (drop (length sent) z)) (sym e) ∙ ap is_nothing (drop-append_seam sent [])
 
 some-left : (y rest : List ℕ) → 0 < length rest → is_nothing (y ++ rest) ≡ false
@@ -75,7 +76,7 @@ undue : (m n : ℕ) → not (m == 0) && nat_le m (n - n) ≡ false
 undue zero n = refl
 undue (suc m) n = ap (λ b. not (suc m == 0) && b) (lt-leb (suc m) (n - n) (omega arith)) ∙ and-false (not (suc m == 0))
 
-or-true : (b : Bool) → b || true ≡ true
+pub or-true : (b : Bool) → b || true ≡ true
 or-true true = refl
 or-true false = refl
 
@@ -84,9 +85,9 @@ or-true false = refl
 abbrev pub answering : Hearing → List ℕ → Bool → ℕ → TurnEvent
 answering t y full worker = talk_event t worker (t.party).since (talk_acts t.x false None (length y) true full None false) NextMark.Going
 
-reads-on : (t : Hearing) (y rest sent : List ℕ) (full : Bool) (worker : ℕ) → is_decided (t.c ++ t.x) ≡ false → sent ≡ t.sent ++ y → sent ++ rest ≡ owed_to_client (basis_of t) (heard t)
+reads-on : (t : Hearing) (y rest sent : List ℕ) (full : Bool) (worker : ℕ) → split_heard t ≡ Split.More → sent ≡ t.sent ++ y → sent ++ rest ≡ owed_to_client (basis_of t) (heard t)
     → Reading (context_of t) (before t) (answering t y full worker) (heard t) (caused t sent false None)
-reads-on t y rest sent full worker undecided e1 e2 =
+reads-on t y rest sent full worker more e1 e2 =
     let k = talk-stages t y false true full None false worker (t.party).since (heard t) (heard t) rest sent takes refl refl refl refl e1 e2 in
     record {
       going = k.going;
@@ -97,7 +98,7 @@ reads-on t y rest sent full worker undecided e1 e2 =
     }
   where
     takes : Takes (basis_of t) t.generation (t.config).methods (heard_takings t false (links true false) (links full false)) (before t) (heard t)
-    takes = takes-open t (links true false) (links full false) (heard t) (settled-undecided t undecided) (heard-nothing t)
+    takes = takes-open t (links true false) (links full false) (heard t) (settled-more t more) (heard-nothing t)
 
 sinks-rest : (t : Hearing) (sent rest : List ℕ) (full : Bool) → sent ++ rest ≡ owed_to_client (basis_of t) (heard t) → (full ≡ false → rest ≡ [])
     → is_nothing (pending_to_client (basis_of t) (caused t sent false None)) || holds Object.Client (links full false) ≡ true
@@ -105,20 +106,20 @@ sinks-rest t sent rest true e none = or-true (is_nothing (pending_to_client (bas
 sinks-rest t sent rest false e none =
     ap (λ b. b || false) (nothing-left sent (owed_to_client (basis_of t) (heard t)) (ap (λ z. sent ++ z) (sym (none refl)) ∙ e))
 
-waits-on : (t : Hearing) (y rest sent : List ℕ) (full : Bool) (worker : ℕ) → is_decided (t.c ++ t.x) ≡ false → sent ≡ t.sent ++ y → sent ++ rest ≡ owed_to_client (basis_of t) (heard t) → (full ≡ false → rest ≡ [])
+waits-on : (t : Hearing) (y rest sent : List ℕ) (full : Bool) (worker : ℕ) → split_heard t ≡ Split.More → sent ≡ t.sent ++ y → sent ++ rest ≡ owed_to_client (basis_of t) (heard t) → (full ≡ false → rest ≡ [])
     → turn (context_of t) (talk_event t worker (t.party).since (talk_acts t.x false None (length y) true full None false) NextMark.Wait) (before t)
     ≡ Some (marked NextMark.Wait (keep (context_of t) (caused t sent false None)))
-waits-on t y rest sent full worker undecided e1 e2 none =
-    waits (context_of t) (before t) (answering t y full worker) (heard t) (caused t sent false None) (reads-on t y rest sent full worker undecided e1 e2) refl took resting
+waits-on t y rest sent full worker more e1 e2 none =
+    waits (context_of t) (before t) (answering t y full worker) (heard t) (caused t sent false None) (reads-on t y rest sent full worker more e1 e2) refl took resting
     (undue (t.config).negotiate (t.party).since)
   where
     took : took_quantum (answering t y full worker) ≡ false
-    took = ap (λ b. b || false || false) (lt-leb quantum (length t.x) (short-heard t undecided))
+    took = ap (λ b. b || false || false) (lt-leb quantum (length t.x) t.few)
 
     resting : rests (basis_of t) (answering t y full worker) (caused t sent false None) ≡ true
     resting =
         ap (λ b. not b && rests_in (basis_of t) (answering t y full worker) (caused t sent false None) (phase (basis_of t) (caused t sent false None))) took
-        ∙ (ap (rests_in (basis_of t) (answering t y full worker) (caused t sent false None)) (phase-undecided t sent false undecided)
+        ∙ (ap (rests_in (basis_of t) (answering t y full worker) (caused t sent false None)) (phase-more t sent false more)
         ∙ ap (λ b. not false && true && (b && true) && true) (sinks-rest t sent rest full e2 none))
 
 -- the link with what it took
@@ -136,10 +137,10 @@ waits-for told counts stands users pubs generation config most h marks now net a
     (turns-talked told counts stands t (t.party).since net a (Next.Wait (with_link b s client)) sends'.bytes false None true full None false
     (stands-before told counts users pubs generation config most h marks a b Heard.NotYet k) (record {
       result = marked NextMark.Wait (keep (context_of t) (caused t s.sent_c false None));
-      lawful = λ worker. waits-on t sends'.bytes sends'.rest s.sent_c full worker undecided sends'.after' owed' (by sends'.rest sends'.ends).0;
+      lawful = λ worker. waits-on t sends'.bytes sends'.rest s.sent_c full worker more sends'.after' owed' (by sends'.rest sends'.ends).0;
       state' = is;
       desk' = desk;
-      goes_on = subst IsPlainRecord (sym is) (plain-caused t s.sent_c false None (λ e. (refl, heard-unwhole t undecided)) (sends'.rest, owed-plain));
+      goes_on = subst (IsPlainRecord users) (sym is) (plain-caused t s.sent_c false None (λ e. (refl, more)) agrees (sends'.rest, owed-plain));
       direct' = record { direct = refl; known = tt };
       c' = refl;
       sent' = sends'.after';
@@ -153,10 +154,10 @@ waits-for told counts stands users pubs generation config most h marks now net a
       at_end = λ e1. absurd (cc);
       first = subst GivesFirst (sym sends'.told') ((k.hears).first (k.stands).client_first);
       behind = heard t;
-      takes = takes-open t (links true false) (links full false) (heard t) (settled-undecided t undecided) (heard-nothing t);
+      takes = takes-open t (links true false) (links full false) (heard t) (settled-more t more) (heard-nothing t);
       open' = heard t;
-      takes_open = takes-open t (links true false) (links full false) (heard t) (settled-undecided t undecided) (heard-nothing t);
-      unread_t = ap (reads_target (heard t)) (phase-undecided t t.sent false undecided);
+      takes_open = takes-open t (links true false) (links full false) (heard t) (settled-more t more) (heard-nothing t);
+      unread_t = ap (reads_target (heard t)) (phase-more t t.sent false more);
       stops_c = StopsReading.rested refl;
       talks = λ e1. absurd (cc);
       short = λ e1. absurd (cc);
@@ -164,7 +165,7 @@ waits-for told counts stands users pubs generation config most h marks now net a
       full_c = λ e1. (
         ((by sends'.rest sends'.ends).1 e1).1,
         rose-before _ _ _ ((k.hears).later).idle_writes ((by sends'.rest sends'.ends).1 e1).2,
-        short s.sent_c sends'.rest (chosen_reply (answered t) ++ []) owed-plain ((by sends'.rest sends'.ends).1 e1).0,
+        short s.sent_c sends'.rest (owes_now t None) owed-plain ((by sends'.rest sends'.ends).1 e1).0,
       );
       fails_c = λ e1. absurd (cc);
       unfailing = λ e1. (refl, refl);
@@ -173,8 +174,11 @@ waits-for told counts stands users pubs generation config most h marks now net a
     t : Hearing
     t = hearing_of told counts users pubs generation config most h marks a b Heard.NotYet k
 
-    undecided : is_decided (t.c ++ t.x) ≡ false
-    undecided = sym (ap is_decided (k.hears).after') ∙ (k.hears).decided'
+    more : split_heard t ≡ Split.More
+    more = heard-as told counts users pubs generation config most h marks a b Heard.NotYet k
+
+    agrees : Fits t None
+    agrees = sym (ap is_failed_split more)
 
     is' : b.state ≡ heard t
     is' = behind-is told counts users pubs generation config most h marks a b Heard.NotYet k
@@ -185,11 +189,11 @@ waits-for told counts stands users pubs generation config most h marks now net a
     sends' : Sends (told b.client) (told client) (counts b.client) (counts client) t.sent s.sent_c (drop (length t.sent) (owed_c (heard t))) outcome
     sends' = subst (λ (r : Record). Sends (told b.client) (told client) (counts b.client) (counts client) r.sent_c s.sent_c (drop (length r.sent_c) (owed_c r)) outcome) is' sends
 
-    owed-plain : s.sent_c ++ sends'.rest ≡ chosen_reply (answered t) ++ []
-    owed-plain = ap (λ z. z ++ sends'.rest) sends'.after' ∙ all-owed t.sent sends'.bytes sends'.rest (chosen_reply (answered t) ++ []) (first-sent t []) sends'.pending'
+    owed-plain : s.sent_c ++ sends'.rest ≡ owes_now t None
+    owed-plain = ap (λ z. z ++ sends'.rest) sends'.after' ∙ all-owed t.sent sends'.bytes sends'.rest (owes_now t None) (first-sent t None agrees) sends'.pending'
 
     owed' : s.sent_c ++ sends'.rest ≡ owed_to_client (basis_of t) (heard t)
-    owed' = owed-plain ∙ sym (owes-caused t false None (λ e. (refl, heard-unwhole t undecided)))
+    owed' = owed-plain ∙ sym (owes-caused t t.sent false None agrees)
 
 -- ---- the write has failed
 
@@ -209,9 +213,9 @@ writes-fail told counts stands users pubs generation config most h marks now net
       told' = told-sent (told a.client) (told b.client) (told client) t.x sends'.bytes false (k.hears).told' sends'.told';
       sent' = sends'.after';
       behind = heard t;
-      takes = takes-open t (links true false) [] (heard t) (settled-undecided t undecided) (heard-nothing t);
+      takes = takes-open t (links true false) [] (heard t) (settled-more t more) (heard-nothing t);
       open' = heard t;
-      takes_open = takes-open t (links true false) [] (heard t) (settled-undecided t undecided) (heard-nothing t);
+      takes_open = takes-open t (links true false) [] (heard t) (settled-more t more) (heard-nothing t);
       uncalling = ap (λ (p : Phase). is_calling p None) talks;
       unread_t = ap (reads_target (heard t)) talks;
       stops_c = StopsReading.rested refl;
@@ -221,7 +225,7 @@ writes-fail told counts stands users pubs generation config most h marks now net
       fits = fits;
       rest = sends'.rest;
       owed' = owed';
-      due = inr refl;
+      due = inr (inr refl);
       at_end = λ e1. absurd (cc);
       first = subst GivesFirst (sym sends'.told') ((k.hears).first (k.stands).client_first);
       idle_c = λ e1. (subst IsIdle (sym sends'.told') (k.hears).ends.0, rose-after _ _ _ (k.hears).ends.1 (sends'.later).idle_reads);
@@ -232,8 +236,11 @@ writes-fail told counts stands users pubs generation config most h marks now net
     t : Hearing
     t = hearing_of told counts users pubs generation config most h marks a b Heard.NotYet k
 
-    undecided : is_decided (t.c ++ t.x) ≡ false
-    undecided = sym (ap is_decided (k.hears).after') ∙ (k.hears).decided'
+    more : split_heard t ≡ Split.More
+    more = heard-as told counts users pubs generation config most h marks a b Heard.NotYet k
+
+    agrees : Fits t None
+    agrees = sym (ap is_failed_split more)
 
     is' : b.state ≡ heard t
     is' = behind-is told counts users pubs generation config most h marks a b Heard.NotYet k
@@ -242,19 +249,19 @@ writes-fail told counts stands users pubs generation config most h marks now net
     is = state' ∙ ap (λ (r : Record). let z : Record = record r { sent_c = s.sent_c } in z) is'
 
     talks : phase (basis_of t) (heard t) ≡ Phase.Talk
-    talks = phase-undecided t t.sent false undecided
+    talks = phase-more t t.sent false more
 
     sends' : Sends (told b.client) (told client) (counts b.client) (counts client) t.sent s.sent_c (drop (length t.sent) (owed_c (heard t))) Sent.Failed
     sends' = subst (λ (r : Record). Sends (told b.client) (told client) (counts b.client) (counts client) r.sent_c s.sent_c (drop (length r.sent_c) (owed_c r)) Sent.Failed) is' sends
 
-    owed-plain : (t.sent ++ sends'.bytes) ++ sends'.rest ≡ chosen_reply (answered t) ++ []
-    owed-plain = all-owed t.sent sends'.bytes sends'.rest (chosen_reply (answered t) ++ []) (first-sent t []) sends'.pending'
+    owed-plain : (t.sent ++ sends'.bytes) ++ sends'.rest ≡ owes_now t None
+    owed-plain = all-owed t.sent sends'.bytes sends'.rest (owes_now t None) (first-sent t None agrees) sends'.pending'
 
     owed' : s.sent_c ++ sends'.rest ≡ owed_to_client (basis_of t) (caused t t.sent false (Some Cause.ClientFault))
-    owed' = ap (λ z. z ++ sends'.rest) sends'.after' ∙ (owed-plain ∙ sym (owes-fault t))
+    owed' = ap (λ z. z ++ sends'.rest) sends'.after' ∙ (owed-plain ∙ sym (owes-fault t t.sent agrees))
 
     pending : has_pending (basis_of t) (caused t t.sent false (Some Cause.ClientFault)) Object.Client ≡ true
-    pending = ap (λ z. not (is_nothing (drop (length t.sent) z))) (owes-fault t) ∙ ap not (still-left t.sent sends'.bytes sends'.rest (chosen_reply (answered t) ++ []) owed-plain (sends'.ends).0)
+    pending = ap (λ z. not (is_nothing (drop (length t.sent) z))) (owes-fault t t.sent agrees) ∙ ap not (still-left t.sent sends'.bytes sends'.rest (owes_now t None) owed-plain (sends'.ends).0)
 
     fits : (reads_in (heard t) (phase (basis_of t) (heard t)) Object.Client || has_pending (basis_of t) (heard t) Object.Client || may_be_shut (basis_of t) (heard t) Object.Client)
         && (false || may_write (basis_of t) (caused t t.sent false (Some Cause.ClientFault))) ≡ true

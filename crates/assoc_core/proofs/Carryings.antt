@@ -55,7 +55,7 @@ goes-on old mid new counts counts' counts'' before text after left most n h k sa
     clash true e f = cc
     clash false e f = cc
 
-prefix-same : (xs : List ℕ) → IsPrefix xs xs
+pub prefix-same : (xs : List ℕ) → IsPrefix xs xs
 prefix-same xs = ([], append-nil xs)
 
 -- fewer than a quantum were read

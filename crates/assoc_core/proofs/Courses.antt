@@ -1,4 +1,4 @@
--- What a record of the first path without a cause has decided, by how far it has come.
+-- What a record that is served and has no cause has decided, by how far it has come.
 use Rattle.std.proofs.Common.{ℕ, ◌≡◌, refl, true, Option, Some, None, is_some, List, [], ◌∷◌, sym, subst, Result, Ok, Err, IfOk}
 use Rattle.addr_pattern.specs.declared.endpoint.Endpoint.{Endpoint}
 use Rattle.rule_list.specs.declared.facts.Facts.{Facts}
@@ -7,6 +7,7 @@ use Rattle.socks_machine.specs.declared.cause.Cause.{Cause}
 use Rattle.socks_machine.specs.declared.record.Decision.{Decision}
 use Rattle.socks_machine.specs.declared.record.Record.{Record}
 use Rattle.socks_machine.specs.Decisions.{reached_at}
+use Rattle.conf_model.specs.declared.user.User.{User}
 use Rattle.assoc_core.specs.declared.one_turn.Course.{Course}
 use Rattle.assoc_core.specs.Course.{IsCourse}
 use Rattle.net_ends.specs.Counts.{Counts}
@@ -31,13 +32,13 @@ at-accept (d ∷ []) h = absurd h
 at-accept (d ∷ e ∷ []) h = absurd h
 at-accept (d ∷ e ∷ f ∷ ds) h = absurd h
 
-pub at-talk : (r : Record) (ds : List Decision) → HasDecided r ds → IsCourse ds Course.Talk → (g : ℕ) × ((rule : Option ℕ) × (ds ≡ Decision.Opened g rule None ∷ []))
-at-talk r [] h c = absurd c
-at-talk r (Decision.Opened g rule None ∷ []) h c = (g, (rule, refl))
-at-talk r (Decision.Opened g rule (Some k) ∷ []) h c = absurd h
-at-talk r (d ∷ []) h c = absurd h
-at-talk r (d ∷ e ∷ []) h c = absurd c
-at-talk r (d ∷ e ∷ f ∷ ds) h c = absurd c
+pub at-talk : (users : List User) (r : Record) (ds : List Decision) → HasDecided users r ds → IsCourse ds Course.Talk → (g : ℕ) × ((rule : Option ℕ) × (ds ≡ Decision.Opened g rule None ∷ []))
+at-talk users r [] h c = absurd c
+at-talk users r (Decision.Opened g rule None ∷ []) h c = (g, (rule, refl))
+at-talk users r (Decision.Opened g rule (Some k) ∷ []) h c = absurd h
+at-talk users r (d ∷ []) h c = absurd h
+at-talk users r (d ∷ e ∷ []) h c = absurd c
+at-talk users r (d ∷ e ∷ f ∷ ds) h c = absurd c
 
 pub record AtReach (ds : List Decision) : Type 0 where
   pub g : ℕ
@@ -48,22 +49,22 @@ pub record AtReach (ds : List Decision) : Type 0 where
   pub route : Option ℕ
   pub is : ds ≡ Decision.Opened g rule None ∷ Decision.Granted g' facts verdict route None ∷ []
 
-pub at-reach : (r : Record) (ds : List Decision) → HasDecided r ds → r.cause ≡ None → IsCourse ds Course.Reach → AtReach ds
-at-reach r [] h k c = absurd c
-at-reach r (d ∷ []) h k c = absurd c
-at-reach r (Decision.Opened g rule None ∷ Decision.Granted g' facts verdict route None ∷ []) h k c =
+pub at-reach : (users : List User) (r : Record) (ds : List Decision) → HasDecided users r ds → r.cause ≡ None → IsCourse ds Course.Reach → AtReach ds
+at-reach users r [] h k c = absurd c
+at-reach users r (d ∷ []) h k c = absurd c
+at-reach users r (Decision.Opened g rule None ∷ Decision.Granted g' facts verdict route None ∷ []) h k c =
     record { g = g; g' = g'; rule = rule; facts = facts; verdict = verdict; route = route; is = refl }
-at-reach r (Decision.Opened g rule None ∷ Decision.Granted g' facts verdict route (Some j) ∷ []) h k c = caused r.cause k (h.stands refl)
-at-reach r (d ∷ e ∷ []) h k c = absurd h
-at-reach r (d ∷ e ∷ f ∷ ds) h k c = absurd c
+at-reach users r (Decision.Opened g rule None ∷ Decision.Granted g' facts verdict route (Some j) ∷ []) h k c = caused r.cause k (h.stands refl)
+at-reach users r (d ∷ e ∷ []) h k c = absurd h
+at-reach users r (d ∷ e ∷ f ∷ ds) h k c = absurd c
 
-pub at-relay : (r : Record) (ds : List Decision) → HasDecided r ds → r.cause ≡ None → IsCourse ds Course.Relay → (at : Endpoint) × (reached_at ds ≡ Some at)
-at-relay r [] h k c = absurd c
-at-relay r (d ∷ []) h k c = absurd c
-at-relay r (d ∷ e ∷ []) h k c = absurd c
-at-relay r (Decision.Opened g rule None ∷ Decision.Granted g' facts verdict route None ∷ Decision.Reached to None ∷ []) h k c = caused r.cause k (h.failed refl)
-at-relay r (Decision.Opened g rule None ∷ Decision.Granted g' facts verdict route None ∷ Decision.Reached to (Some at) ∷ []) h k c = (at, refl)
-at-relay r (d ∷ e ∷ f ∷ ds) h k c = absurd h
+pub at-relay : (users : List User) (r : Record) (ds : List Decision) → HasDecided users r ds → r.cause ≡ None → IsCourse ds Course.Relay → (at : Endpoint) × (reached_at ds ≡ Some at)
+at-relay users r [] h k c = absurd c
+at-relay users r (d ∷ []) h k c = absurd c
+at-relay users r (d ∷ e ∷ []) h k c = absurd c
+at-relay users r (Decision.Opened g rule None ∷ Decision.Granted g' facts verdict route None ∷ Decision.Reached to None ∷ []) h k c = caused r.cause k (h.failed refl)
+at-relay users r (Decision.Opened g rule None ∷ Decision.Granted g' facts verdict route None ∷ Decision.Reached to (Some at) ∷ []) h k c = (at, refl)
+at-relay users r (d ∷ e ∷ f ∷ ds) h k c = absurd h
 
 -- ---- how the phases' answers are those of a turn
 

@@ -31,14 +31,14 @@ use Rattle.assoc_core.specs.declared.carry.Give.{Give}
 use Rattle.assoc_core.specs.Carrying.{GivesPart, is_sound, is_full}
 use Rattle.assoc_core.specs.Closing.{Closed}
 use Rattle.assoc_core.specs.Draining.{SendsClient, SendsTarget}
-use Rattle.assoc_core.specs.Plain.{IsPlainRecord, HasDecided, Untargeted, owed_c, owed_t, plain_to_target}
+use Rattle.assoc_core.specs.Plain.{IsPlainRecord, HasDecided, Untargeted, owed_c, owed_t, plain_to_target, prelude_of}
 use Rattle.assoc_core.specs.Stands.{Holds, HoldsTarget, Stands, EndsBehind, GivesFirst}
 use Rattle.assoc_core.specs.Turns.{context, Turns, left_of, IsFull, IsThereAnd, IsUnfailing, SameOutside, SameTarget}
 use Rattle.assoc_core.proofs.Drains.{drained, Drains, DrainFault, DrainTurn, drain-closes, drain-waits, drain-turns}
 use Rattle.assoc_core.proofs.LinksHeld.{holds-given, ends-given, first-given, outside-given}
 use Rattle.assoc_core.proofs.PassLaws.{full-of, unsound-of, nothing-of, sound-written}
 use Rattle.assoc_core.proofs.PlainRecords.{decided-forms}
-use Rattle.assoc_core.proofs.RelayRecords.{plain-tcp}
+use Rattle.assoc_core.proofs.RelayRecords.{asked-as, plain-tcp}
 use Rattle.assoc_core.proofs.RelaySums.{clash, sent-on, none-left, all-sent}
 
 -- ---- a link that is not shut
@@ -61,8 +61,8 @@ some-unsent {shut = shut} k h = by-unsound (unsound-of k h).2
 -- ---- the target
 
 -- a record that has reached its target has one
-plain-target : (r : Record) (at : Endpoint) → IsPlainRecord r → reached_at r.decisions ≡ Some at → has_target r ≡ true
-plain-target r at plain reaches = decided-forms r (λ ds. reached_at ds ≡ Some at → has_target (record r { decisions = ds }) ≡ true) (record {
+plain-target : (users : List User) (r : Record) (at : Endpoint) → IsPlainRecord users r → reached_at r.decisions ≡ Some at → has_target r ≡ true
+plain-target users r at plain reaches = decided-forms users r (λ ds. reached_at ds ≡ Some at → has_target (record r { decisions = ds }) ≡ true) (record {
   nothing = λ fresh' k. absurd (cc);
   opened' = λ g rule d k. absurd (cc);
   granted' = λ g rule g' facts verdict route refused d k. absurd (cc);
@@ -81,12 +81,12 @@ pub record DrainedTarget {L : Type 0} (told : L → Told) (net : NetTold) (old n
   pub full : is_full give ≡ true → (0 < length rest) × IsThereAnd target' (λ link. IsFull (told link))
   pub unsound : is_sound give ≡ false → (0 < length rest) × (has_target old ≡ true) × (IsUnfailing told net target → ⊥)
 
-pub target-drained : {L : Type 0} (told : L → Told) (net : NetTold) (old new : Record) (sent_c : List ℕ) (target target' : Option L) (give : Give) → IsPlainRecord old → HoldsTarget told old target
+pub target-drained : {L : Type 0} (users : List User) (told : L → Told) (net : NetTold) (old new : Record) (sent_c : List ℕ) (target target' : Option L) (give : Give) → IsPlainRecord users old → HoldsTarget told old target
     → SendsTarget told target target' (record old { sent_c = sent_c }) new give → DrainedTarget told net old new sent_c target target' give
-target-drained told net old new sent_c None None give plain held sends = record {
+target-drained users told net old new sent_c None None give plain held sends = record {
   part = [];
   rest = [];
-  owes = ap (λ z. (z ++ []) ++ []) held.2 ∙ sym (ap (plain_to_target old.c) held.0);
+  owes = ap (λ z. (z ++ []) ++ []) held.2 ∙ sym (ap (plain_to_target (prelude_of old) old.c) held.0);
   is = sends.0 ∙ (λ i. record old { sent_c = sent_c; sent_t = sym (append-nil old.sent_t) i });
   holds' = (held.0, held.1, ap (λ z. z ++ []) held.2, held.3);
   same = tt;
@@ -94,12 +94,12 @@ target-drained told net old new sent_c None None give plain held sends = record 
   full = λ h. let e : is_full Give.Held ≡ true = ap is_full (sym sends.1) ∙ h in absurd (cc);
   unsound = λ h. let e : is_sound Give.Held ≡ false = ap is_sound (sym sends.1) ∙ h in absurd (cc);
 }
-target-drained told net old new sent_c None (Some link') give plain held sends = absurd sends
-target-drained told net old new sent_c (Some link) None give plain held sends = absurd sends
-target-drained {L} told net old new sent_c (Some link) (Some link') give plain held sends = record {
+target-drained users told net old new sent_c None (Some link') give plain held sends = absurd sends
+target-drained users told net old new sent_c (Some link) None give plain held sends = absurd sends
+target-drained {L} users told net old new sent_c (Some link) (Some link') give plain held sends = record {
   part = sends.gives.part;
   rest = sends.gives.rest;
-  owes = sent-on old.sent_t sends.gives.part sends.gives.rest (owed_t old) plain.sent_t (sends.gives.pending' ∙ ap (drop (length old.sent_t)) (sym (ap (plain_to_target old.c) held.0.1)));
+  owes = sent-on old.sent_t sends.gives.part sends.gives.rest (owed_t old) plain.sent_t (sends.gives.pending' ∙ ap (drop (length old.sent_t)) (sym (ap (plain_to_target (prelude_of old) old.c) held.0.1)));
   is = sends.is ∙ (λ i. record old { sent_c = sent_c; sent_t = sends.gives.after' i; shut_t = unshut-of sends.gives i });
   holds' = (
     held.0,
@@ -111,7 +111,7 @@ target-drained {L} told net old new sent_c (Some link) (Some link') give plain h
   same = outside-given sends.gives;
   nothing = λ h. nothing-of sends.gives refl (sound-written give h);
   full = λ h. let f = full-of sends.gives h in (f.0, f.1);
-  unsound = λ h. (some-unsent sends.gives h, plain-target old held.0.0 plain held.0.1, λ fine. clash ((told link).unfailing) fine (sym (outside-given sends.gives).unfailing ∙ (unsound-of sends.gives h).0));
+  unsound = λ h. (some-unsent sends.gives h, plain-target users old held.0.0 plain held.0.1, λ fine. clash ((told link).unfailing) fine (sym (outside-given sends.gives).unfailing ∙ (unsound-of sends.gives h).0));
 }
 
 -- ---- the client
@@ -130,9 +130,9 @@ pub record DrainedClient (old mid : Record) (told told' : Told) (counts counts' 
   pub full : is_full give ≡ true → (0 < length rest) × IsFull told' × Rose counts.idle_writes counts'.idle_writes
   pub unsound : is_sound give ≡ false → (0 < length rest) × Rose counts.faults counts'.faults × (told.unfailing ≡ true → ⊥)
 
-pub client-drained : (old mid : Record) (told told' : Told) (counts counts' : Counts) (give : Give) → IsPlainRecord old → Holds told old.c old.sent_c old.end_c old.shut_c → EndsBehind told → GivesFirst told
+pub client-drained : (users : List User) (old mid : Record) (told told' : Told) (counts counts' : Counts) (give : Give) → IsPlainRecord users old → Holds told old.c old.sent_c old.end_c old.shut_c → EndsBehind told → GivesFirst told
     → SendsClient told told' counts counts' old mid give → DrainedClient old mid told told' counts counts' give
-client-drained old mid told told' counts counts' give plain held ends' first sends = record {
+client-drained users old mid told told' counts counts' give plain held ends' first sends = record {
   part = sends.gives.part;
   rest = sends.gives.rest;
   owes = sent-on old.sent_c sends.gives.part sends.gives.rest (owed_c old) plain.sent_c sends.gives.pending';
@@ -161,7 +161,7 @@ drain-ends told counts stands users pubs generation config cap h marks now net a
     (cause_of_shut (at_close h marks (close_line x cause) closed.closes.logged).said) true _ _ k tt
     (λ worker. drain-closes users pubs generation config cap h marks worker a.state.number now a.state cause part_c rest_c part_t rest_t full_c full_t fault unwritten closed.closes.logged k.drains f same due)
     state (subst (λ (l : CloseLine). stands (at_close h marks l closed.closes.logged).h (at_close h marks l closed.closes.logged).marks) line closed.closes.stands')
-    (ap (λ (z : Record). z.done) state, ap is_udp state ∙ plain-tcp a.state k.drains.plain, ap (λ (z : Record). z.sent_u) state ∙ k.drains.plain.sent_u)
+    (ap (λ (z : Record). z.done) state, ap is_udp state ∙ plain-tcp users a.state k.drains.plain, ap (λ (z : Record). z.sent_u) state ∙ k.drains.plain.sent_u)
   where
     x : Record
     x = drained a.state part_c part_t
@@ -181,22 +181,22 @@ first-nothing : (xs ys : List ℕ) → xs ++ ys ≡ [] → xs ≡ []
 first-nothing [] ys h = refl
 first-nothing (x ∷ xs) ys h = absurd (cc)
 
-drained-plain : {basis : Basis} (old : Record) (cause : Cause) (part_c rest_c part_t rest_t : List ℕ) → Drains basis old cause part_c rest_c part_t rest_t → IsPlainRecord (drained old part_c part_t)
-drained-plain old cause part_c rest_c part_t rest_t k = record {
+drained-plain : {basis : Basis} (old : Record) (cause : Cause) (part_c rest_c part_t rest_t : List ℕ) → Drains basis old cause part_c rest_c part_t rest_t → IsPlainRecord basis.users (drained old part_c part_t)
+drained-plain {basis} old cause part_c rest_c part_t rest_t k = record {
   undone = k.plain.undone;
   unclosed = k.plain.unclosed;
   grams = k.plain.grams;
   sent_u = k.plain.sent_u;
   served = k.plain.served;
   chosen' = k.plain.chosen';
-  decided = decided-forms old (λ ds. (reached_at ds ≡ None → x.sent_t ≡ []) → HasDecided x ds) (record {
+  failed = k.plain.failed;
+  decided = decided-forms basis.users old (λ ds. (reached_at ds ≡ None → x.sent_t ≡ []) → HasDecided basis.users x ds) (record {
     nothing = λ fresh' f. absurd (none-some (ap (λ (z : Record). z.cause) fresh'));
     opened' = λ g rule d f. record { untargeted = still d.untargeted (f refl); talks = d.talks };
     granted' = λ g rule g' facts verdict route refused d f.
-        record { untargeted = still d.untargeted (f refl); whole = d.whole; version = d.version; command = d.command; unended = d.unended; stands = d.stands };
+        record { untargeted = still d.untargeted (f refl); asked = asked-as basis.users old x refl d.asked; command = d.command; unended = d.unended; stands = d.stands };
     reached' = λ g rule g' facts verdict route to at d f. record {
-      whole = d.whole;
-      version = d.version;
+      asked = asked-as basis.users old x refl d.asked;
       command = d.command;
       unreached = λ e. still (d.unreached e) (f e);
       failed = d.failed;
@@ -204,7 +204,7 @@ drained-plain old cause part_c rest_c part_t rest_t k = record {
       shut_c = λ e. ((d.shut_c e).0, all-sent _ rest_c _ k.owes_c (none-left old.sent_c part_c rest_c _ k.owes_c (d.shut_c e).1));
       shut_t = λ e. ((d.shut_t e).0, all-sent _ rest_t _ k.owes_t (none-left old.sent_t part_t rest_t _ k.owes_t (d.shut_t e).1));
     };
-  }) old.decisions k.plain.decided (λ e. first-nothing (old.sent_t ++ part_t) rest_t (k.owes_t ∙ ap (plain_to_target old.c) e));
+  }) old.decisions k.plain.decided (λ e. first-nothing (old.sent_t ++ part_t) rest_t (k.owes_t ∙ ap (plain_to_target (prelude_of old) old.c) e));
   sent_c = (rest_c, k.owes_c);
   sent_t = (rest_t, k.owes_t);
 }
@@ -254,7 +254,7 @@ client-failed {L} told counts stands users pubs generation config cap h marks no
     target = closed.target ∙ kept
 
     d : DrainedClient a.state mid.state (told a.client) (told e.client) (counts a.client) (counts e.client) gave_c
-    d = client-drained a.state mid.state _ _ _ _ gave_c st.plain st.client st.client_ends st.client_first
+    d = client-drained users a.state mid.state _ _ _ _ gave_c st.plain st.client st.client_ends st.client_first
         (subst (λ (z : L). SendsClient (told a.client) (told z) (counts a.client) (counts z) a.state mid.state gave_c) (sym closed.client) sends)
 
     or-written : (a b : Bool) → a || true || b ≡ true
@@ -272,14 +272,14 @@ sent-both : {L : Type 0} {basis : Basis} (told : L → Told) (counts : L → Cou
     → (left_of next).client ≡ mid.client → (left_of next).target ≡ mid.target
     → SendsClient (told a.client) (told mid.client) (counts a.client) (counts mid.client) a.state between gave_c → SendsTarget told a.target mid.target between mid.state gave_t
     → SentBoth told counts basis net a mid next between cause gave_c gave_t
-sent-both {L} told counts net a mid next between cause gave_c gave_t st caused client target sends_c sends_t = record { st = st; caused = caused; c = d; t = t }
+sent-both {L} {basis} told counts net a mid next between cause gave_c gave_t st caused client target sends_c sends_t = record { st = st; caused = caused; c = d; t = t }
   where
     d : DrainedClient a.state between (told a.client) (told (left_of next).client) (counts a.client) (counts (left_of next).client) gave_c
-    d = client-drained a.state between _ _ _ _ gave_c st.plain st.client st.client_ends st.client_first
+    d = client-drained basis.users a.state between _ _ _ _ gave_c st.plain st.client st.client_ends st.client_first
         (subst (λ (z : L). SendsClient (told a.client) (told z) (counts a.client) (counts z) a.state between gave_c) (sym client) sends_c)
 
     t : DrainedTarget told net a.state mid.state (a.state.sent_c ++ d.part) a.target (left_of next).target gave_t
-    t = target-drained told net a.state mid.state (a.state.sent_c ++ d.part) a.target (left_of next).target gave_t st.plain st.target
+    t = target-drained basis.users told net a.state mid.state (a.state.sent_c ++ d.part) a.target (left_of next).target gave_t st.plain st.target
         (subst (λ (z : Option L). SendsTarget told a.target z (record a.state { sent_c = a.state.sent_c ++ d.part }) mid.state gave_t) (sym target)
         (subst (λ (r : Record). SendsTarget told a.target mid.target r mid.state gave_t) d.is sends_t))
 
@@ -363,7 +363,7 @@ drain-rests told counts stands users pubs generation config cap h marks now net 
     (both-drains told counts net a mid (Next.Wait mid) between cause gave_c gave_t k) same
     ((λ i. (k.c.nothing sound_c i && k.t.nothing sound_t i) || false || loud i) ∙ undue (is_full gave_c) (is_full gave_t) full)
     (sink (is_nothing k.c.rest) (is_full gave_c) (k.c.nothing sound_c)) (sink (is_nothing k.t.rest) (is_full gave_t) (k.t.nothing sound_t)))
-    k.t.is desked (subst IsPlainRecord (sym k.t.is) (drained-plain a.state cause k.c.part k.c.rest k.t.part k.t.rest (both-drains told counts net a mid (Next.Wait mid) between cause gave_c gave_t k)))
+    k.t.is desked (subst (IsPlainRecord users) (sym k.t.is) (drained-plain a.state cause k.c.part k.c.rest k.t.part k.t.rest (both-drains told counts net a mid (Next.Wait mid) between cause gave_c gave_t k)))
   where
     undue : (c t : Bool) → c || t ≡ true → (not c && not t) || false || false ≡ false
     undue true t e = refl
@@ -375,8 +375,8 @@ drain-rests told counts stands users pubs generation config cap h marks now net 
     sink nothing false e = ap (λ b. b || false) e
 
 -- no datagrams come by sendings
-pub client-tcp : (old mid : Record) (told told' : Told) (counts counts' : Counts) (give : Give) → IsPlainRecord old → SendsClient told told' counts counts' old mid give → is_udp mid ≡ false
-client-tcp old mid told told' counts counts' give plain sends = ap is_udp sends.is ∙ plain-tcp old plain
+pub client-tcp : (users : List User) (old mid : Record) (told told' : Told) (counts counts' : Counts) (give : Give) → IsPlainRecord users old → SendsClient told told' counts counts' old mid give → is_udp mid ≡ false
+client-tcp users old mid told told' counts counts' give plain sends = ap is_udp sends.is ∙ plain-tcp users old plain
 
 pub target-tcp : {L : Type 0} (told : L → Told) (target target' : Option L) (between new : Record) (give : Give) → SendsTarget told target target' between new give → is_udp between ≡ false → is_udp new ≡ false
 target-tcp told None None between new give sends h = ap is_udp sends.0 ∙ h

@@ -33,7 +33,8 @@ use Rattle.assoc_core.specs.Stands.{GoesDirect, Holds, HoldsTarget, EndsBehind, 
 use Rattle.assoc_core.specs.Turns.{Acts, event_of, context, links, Turns, GoesOn, left_of, mark_of, StopsReading, IsFull, IsThereAnd, IsUnfailing, SameOutside, SameTarget}
 use Rattle.assoc_core.proofs.LinksHeld.{short}
 use Rattle.assoc_core.proofs.PlainRecords.{decided-forms, closing-phase, plain-owes-client, plain-owes-target}
-use Rattle.assoc_core.proofs.RelayCloses.{closes-with, rests-with}
+use Rattle.assoc_core.proofs.Rests.{rests-with}
+use Rattle.assoc_core.proofs.RelayCloses.{closes-with}
 use Rattle.assoc_core.proofs.RelayEnds.{idle-c, idle-t, both, drop-sent, something}
 use Rattle.assoc_core.proofs.RelayTurns.{IsDesk, desk-dials, desk-plan, desk-outer}
 
@@ -63,7 +64,7 @@ drained old part_c part_t = record old { sent_c = old.sent_c ++ part_c; sent_t =
 
 -- a record with a cause, of whose owed bytes these were sent and these are left
 pub record Drains (basis : Basis) (old : Record) (cause : Cause) (part_c rest_c part_t rest_t : List ℕ) : Type 0 where
-  pub plain : IsPlainRecord old
+  pub plain : IsPlainRecord basis.users old
   pub caused : old.cause ≡ Some cause
   pub direct : GoesDirect basis old.decisions
   pub owes_c : (old.sent_c ++ part_c) ++ rest_c ≡ owed_c old
@@ -81,8 +82,8 @@ sends-none : {A : Type 0} (sent owed : List A) → sent ≡ [] → Sends sent 0 
 sends-none sent owed h = record { bytes = []; now' = sym (append-nil sent); count = refl; rest = owed; owed' = ap (λ z. z ++ owed) h }
 
 -- what of the record holds at its turn
-drain-opened : (old : Record) (cause : Cause) → IsPlainRecord old → old.cause ≡ Some cause → is_opened old.decisions ≡ true
-drain-opened old cause plain caused = decided-forms old (λ ds. is_opened ds ≡ true) (record {
+drain-opened : (users : List User) (old : Record) (cause : Cause) → IsPlainRecord users old → old.cause ≡ Some cause → is_opened old.decisions ≡ true
+drain-opened users old cause plain caused = decided-forms users old (λ ds. is_opened ds ≡ true) (record {
   nothing = λ fresh'. absurd (none-some (ap (λ (z : Record). z.cause) fresh'));
   opened' = λ g rule d. refl;
   granted' = λ g rule g' facts verdict route refused d. refl;
@@ -183,7 +184,7 @@ drain-closes users pubs generation config cap h marks worker number now old caus
     closes-with (context users pubs generation config cap h marks) old worker number now (drain_acts part_c part_t full_c full_t fault unwritten Outer.Nothing) old old (drained old part_c part_t) cause logged
     (drain-turn users pubs generation config cap h marks worker number now old cause part_c rest_c part_t rest_t full_c full_t fault unwritten k f)
     (ap (λ p. is_calling p None) (closing-phase (socks users pubs) old cause k.plain.undone k.caused)) (drain-fits users pubs old cause part_c rest_c part_t rest_t fault unwritten k f) same k.caused
-    (drain-opened old cause k.plain k.caused)
+    (drain-opened users old cause k.plain k.caused)
     ((λ i. (is_nothing (drain-pending-c users pubs old cause part_c rest_c part_t rest_t k i) && is_nothing (drain-pending-t users pubs old cause part_c rest_c part_t rest_t k i)) || unwritten || is_quiet (Some cause)) ∙ due)
 
 pub drain-waits : (users : List User) (pubs : List Config) (generation : ℕ) (config : Config) (cap : ℕ) (h : List Line) (marks : List StopBy) (worker number now : ℕ)
@@ -196,7 +197,7 @@ drain-waits users pubs generation config cap h marks worker number now old cause
     rests-with (context users pubs generation config cap h marks) old worker number now (drain_acts part_c part_t full_c full_t None false Outer.Nothing) old old (drained old part_c part_t) cause NextMark.Wait
     (drain-turn users pubs generation config cap h marks worker number now old cause part_c rest_c part_t rest_t full_c full_t None false k refl)
     (ap (λ p. is_calling p None) (closing-phase (socks users pubs) old cause k.plain.undone k.caused)) refl same refl k.plain.undone k.caused
-    (drain-opened old cause k.plain k.caused)
+    (drain-opened users old cause k.plain k.caused)
     ((λ i. (is_nothing (drain-pending-c users pubs old cause part_c rest_c part_t rest_t k i) && is_nothing (drain-pending-t users pubs old cause part_c rest_c part_t rest_t k i)) || false || is_quiet (Some cause)) ∙ undue)
     (both _ _ (ap (λ z. is_nothing z || holds Object.Client (links full_c full_t)) (drain-pending-c users pubs old cause part_c rest_c part_t rest_t k) ∙ (ap (λ b. is_nothing rest_c || b) (idle-c full_c full_t) ∙ sink_c))
     (ap (λ z. is_nothing z || holds Object.Target (links full_c full_t)) (drain-pending-t users pubs old cause part_c rest_c part_t rest_t k) ∙ (ap (λ b. is_nothing rest_t || b) (idle-t full_c full_t) ∙ sink_t)))
@@ -227,7 +228,7 @@ pub drain-turns : {L : Type 0} (told : L → Told) (counts : L → Counts) (stan
     (event_of worker a.state.number now (drain_acts part_c part_t full_c full_t fault unwritten outer) (mark_of next)) a.state
     ≡ Some (record { left = record (drained a.state part_c part_t) { at_close = at_close; done = done }; h = h'; marks = marks' }))
     → (left_of next).state ≡ record (drained a.state part_c part_t) { at_close = at_close; done = done }
-    → stands h' marks' → GoesOn next
+    → stands h' marks' → GoesOn users next
     → Turns told counts stands (context users pubs generation config cap h marks) now net net a next
 drain-turns {L} told counts stands users pubs generation config cap h marks now net a next cause part_c rest_c part_t rest_t full_c full_t fault unwritten outer at_close done h' marks' k desk lawful state desked goes = record {
   acts = drain_acts part_c part_t full_c full_t fault unwritten outer;

@@ -1,61 +1,58 @@
 -- What was heard of a client, as a turn that talks with it.
-use Rattle.std.proofs.Common.{◌≡◌, ℕ, zero, suc, ◌<◌, Bool, true, false, ◌&&◌, ◌||◌, ◌==◌, if◌then◌else◌, Option, Some, None, List, [], ◌∷◌, ◌++◌, length, drop, nat_le, refl, sym, ap, subst, ◌∙◌, inl, inr, append_assoc, length-append, arith}
+use Rattle.std.proofs.Common.{◌≡◌, ℕ, Bool, true, false, ◌&&◌, ◌||◌, Option, Some, None, option_map, List, [], ◌∷◌, ◌++◌, length, refl, sym, ap, subst, ◌∙◌, inr, append_assoc}
 use Rattle.std.proofs.lemmas.List.{append-nil}
 use mathlib.Core.List.{IsPrefix}
 use Rattle.conf_model.specs.declared.config.Config.{Config}
 use Rattle.conf_model.specs.declared.protocol.Version.{Version}
 use Rattle.conf_model.specs.declared.user.User.{User}
-use Rattle.conf_model.specs.Handshake.{version_of}
+use Rattle.conf_model.specs.Handshake.{Split, split, version_of}
 use Rattle.net_ends.specs.Counts.{Counts}
 use Rattle.net_ends.specs.Nets.{NetTold}
 use Rattle.net_ends.specs.Told.{Told, more}
 use Rattle.socks_machine.specs.declared.cause.Cause.{Cause}
 use Rattle.socks_machine.specs.declared.cause.StopBy.{StopBy}
 use Rattle.socks_machine.specs.declared.lines.Line.{Line}
-use Rattle.socks_machine.specs.declared.record.Chosen.{Chosen}
 use Rattle.socks_machine.specs.declared.record.Decision.{Decision}
 use Rattle.socks_machine.specs.declared.record.Record.{Record}
 use Rattle.socks_machine.specs.declared.world.Object.{Object}
-use Rattle.socks_machine.specs.Basis.{Basis}
 use Rattle.socks_machine.specs.Calls.{is_calling}
+use Rattle.socks_machine.specs.Inputs.{is_served_input, is_served_split}
 use Rattle.socks_machine.specs.Owed.{owed_to_client}
 use Rattle.socks_machine.specs.Phase.{Phase, phase, is_udp}
-use Rattle.socks_machine.specs.Replies.{refusal}
-use Rattle.socks_machine.specs.Served.{agrees, served_prelude, is_served_input, is_whole_input}
-use Rattle.socks_machine.specs.Settle.{is_nothing}
-use Rattle.socks_machine.specs.Socks.{socks, chosen_reply}
-use Rattle.socks_machine.specs.Taking.{reads_client, reads_target}
-use Rattle.socks_machine.specs.Turn.{quantum, reads_in, may_be_shut, has_pending}
+use Rattle.socks_machine.specs.Replies.{RefusedAt, refusal}
+use Rattle.socks_machine.specs.Socks.{socks}
+use Rattle.socks_machine.specs.Taking.{reads_target, chosen_after, with_client_bytes}
+use Rattle.socks_machine.specs.Turn.{reads_in, may_be_shut, has_pending}
+use Rattle.socks_machine.proofs.OwedLaws.{talk-owes}
 use Rattle.assoc_core.specs.declared.assoc.Assoc.{Assoc}
 use Rattle.assoc_core.specs.declared.assoc.Ended.{Ended}
 use Rattle.assoc_core.specs.declared.assoc.Next.{Next}
 use Rattle.assoc_core.specs.declared.hear.Heard.{Heard}
 use Rattle.assoc_core.specs.Closing.{Closed}
-use Rattle.assoc_core.specs.Hearing.{HasHeard, is_decided, chosen_as}
-use Rattle.assoc_core.specs.Plain.{IsPlainRecord, HasChosen, HasDecided, Talking, owed_c, refusal_owed, no_login, is_greeted}
-use Rattle.assoc_core.specs.Preludes.{IsOther}
+use Rattle.assoc_core.specs.Hearing.{HasHeard, HeardAs}
+use Rattle.assoc_core.specs.Plain.{IsPlainRecord, HasDecided, Talking, split_in, opening_owed, owed_c, refusal_owed, refused_at, is_login_failed, is_failed_split}
 use Rattle.assoc_core.specs.Stands.{Stands, TellsServed, Holds, GivesFirst}
 use Rattle.assoc_core.specs.Turns.{Turns, StopsReading, context}
-use Rattle.assoc_core.proofs.Hearings.{undecided-short}
-use Rattle.assoc_core.proofs.PlainRecords.{plain-owes-client, closing-phase}
+use Rattle.assoc_core.proofs.Inputs.{first-part-served}
+use Rattle.assoc_core.proofs.PlainRecords.{early-owes, closing-phase}
 use Rattle.assoc_core.proofs.Sendings.{more-nil}
-use Rattle.assoc_core.proofs.ServedInput.{both-true, served-first}
-use Rattle.assoc_core.proofs.Talking.{Hearing, basis_of, context_of, before, heard, gone, bad_version, answered, has-answered, takes-open, takes-end, settled-undecided, settled-other, heard-nothing, phase-undecided}
+use Rattle.assoc_core.proofs.Talking.{Hearing, basis_of, context_of, before, heard, gone, answered, split_heard, has-answered, takes-open, takes-end, settled-more, heard-nothing, phase-more}
 use Rattle.assoc_core.proofs.TalkTurns.{heard_told, with_state}
 use Rattle.assoc_core.proofs.TalkCloses.{turns-closed, caused}
 
 -- ---- from what was heard
 
-pub served-heard : (old new : Told) (c sent x : List ℕ) (ended shut ends : Bool) → TellsServed old → Holds old c sent ended shut → GivesFirst old → (GivesFirst old → GivesFirst new)
-    → new ≡ record old { given = more old.given x; ended = ends || old.ended } → is_served_input (c ++ x) ≡ true
-served-heard old new c sent x ended shut ends v holds first firsts is =
-    subst (λ (z : List ℕ). is_served_input (z ++ x) ≡ true) (holds.given' v.given v.given') (served-first (v.given ++ x) p.0 (ap is_served_input p.1 ∙ v.served))
+pub served-heard : (users : List User) (old new : Told) (c sent x : List ℕ) (ended shut ends : Bool) (method : Option ℕ) → TellsServed users old → Holds old c sent ended shut → GivesFirst old → (GivesFirst old → GivesFirst new)
+    → new ≡ record old { given = more old.given x; ended = ends || old.ended } → is_served_split (split users method (c ++ x)) ≡ true
+served-heard users old new c sent x ended shut ends method v holds first firsts is =
+    subst (λ (z : List ℕ). is_served_split (split users method (z ++ x)) ≡ true) (holds.given' v.given v.given')
+    (first-part-served users method (v.given ++ x) p.0 (ap (is_served_input users) p.1 ∙ v.served))
   where
     p : IsPrefix (v.given ++ x) (v.arrival).bytes
     p = firsts first v.arrival (v.given ++ x) (ap (λ (z : Told). z.arrived) is ∙ v.arrived') (ap (λ (z : Told). z.given) is ∙ ap (λ o. more o x) v.given')
 
-pub talking-of : (r : Record) (ds : List Decision) (g : ℕ) (rule : Option ℕ) → ds ≡ Decision.Opened g rule None ∷ [] → HasDecided r ds → Talking r
-talking-of r ds g rule is h = subst (HasDecided r) is h
+pub talking-of : (users : List User) (r : Record) (ds : List Decision) (g : ℕ) (rule : Option ℕ) → ds ≡ Decision.Opened g rule None ∷ [] → HasDecided users r ds → Talking users r
+talking-of users r ds g rule is h = subst (HasDecided users r) is h
 
 abbrev pub hearing_of : {L : Type 0} (told : L → Told) (counts : L → Counts) (users : List User) (pubs : List Config) (generation : ℕ) (config : Config) (most : ℕ) (h : List Line) (marks : List StopBy)
     (a b : Assoc L) (heard : Heard) → HasHeard told counts (socks users pubs) generation config a b heard → Hearing
@@ -74,12 +71,13 @@ hearing_of told counts users pubs generation config most h marks a b heard k = r
   x = (k.hears).bytes;
   sent = (a.state).sent_c;
   chosen = (a.state).chosen;
-  methods' = (k.plain).methods;
   routes' = (k.plain).routes;
   published = k.published;
-  served = served-heard (told a.client) (told b.client) (a.state).c (a.state).sent_c (k.hears).bytes (a.state).end_c (a.state).shut_c _ k.served (k.stands).client (k.stands).client_first (k.hears).first (k.hears).told';
+  served = served-heard users (told a.client) (told b.client) (a.state).c (a.state).sent_c (k.hears).bytes (a.state).end_c (a.state).shut_c _
+      (option_map (λ c. c.method) (chosen_after generation config.methods (a.state).chosen ((a.state).c ++ (k.hears).bytes))) k.served (k.stands).client (k.stands).client_first (k.hears).first (k.hears).told';
   chosen' = ((k.stands).plain).chosen';
-  unwhole = ((talking-of a.state (a.state).decisions k.generation' k.rule k.opened' ((k.stands).plain).decided).talks k.uncaused).1;
+  more = ((talking-of users a.state (a.state).decisions k.generation' k.rule k.opened' ((k.stands).plain).decided).talks k.uncaused).1;
+  few = (k.hears).few;
   sent' = subst (λ (ds : List Decision). IsPrefix (a.state).sent_c (owed_c (let r = a.state in record r { decisions = ds; cause = None }))) k.opened'
       (subst (λ (o : Option Cause). IsPrefix (a.state).sent_c (owed_c (let r = a.state in record r { cause = o }))) k.uncaused ((k.stands).plain).sent_c);
 }
@@ -108,14 +106,19 @@ before-is told counts users pubs generation config most h marks a b heard k = λ
   done = ((k.stands).plain).undone i;
 }
   where
-    talking : Talking a.state
-    talking = talking-of a.state (a.state).decisions k.generation' k.rule k.opened' ((k.stands).plain).decided
+    talking : Talking users a.state
+    talking = talking-of users a.state (a.state).decisions k.generation' k.rule k.opened' ((k.stands).plain).decided
 
 pub behind-is : {L : Type 0} (told : L → Told) (counts : L → Counts) (users : List User) (pubs : List Config) (generation : ℕ) (config : Config) (most : ℕ) (h : List Line) (marks : List StopBy)
     (a b : Assoc L) (how : Heard) (k : HasHeard told counts (socks users pubs) generation config a b how) → b.state ≡ heard (hearing_of told counts users pubs generation config most h marks a b how k)
 behind-is told counts users pubs generation config most h marks a b how k =
-    k.state' ∙ (λ i. let r : Record = before-is told counts users pubs generation config most h marks a b how k i in
-    record r { c = (k.hears).after' i; chosen = chosen_as generation r.chosen ((k.hears).after' i) })
+    k.state' ∙ ap (with_client_bytes generation config.methods (k.hears).bytes) (before-is told counts users pubs generation config most h marks a b how k)
+
+-- what the whole input is
+pub heard-as : {L : Type 0} (told : L → Told) (counts : L → Counts) (users : List User) (pubs : List Config) (generation : ℕ) (config : Config) (most : ℕ) (h : List Line) (marks : List StopBy)
+    (a b : Assoc L) (how : Heard) (k : HasHeard told counts (socks users pubs) generation config a b how) → HeardAs (split_heard (hearing_of told counts users pubs generation config most h marks a b how k)) how
+heard-as told counts users pubs generation config most h marks a b how k =
+    subst (λ (r : Record). HeardAs (split_in users r) how) (behind-is told counts users pubs generation config most h marks a b how k) k.heard'
 
 pub stands-before : {L : Type 0} (told : L → Told) (counts : L → Counts) (users : List User) (pubs : List Config) (generation : ℕ) (config : Config) (most : ℕ) (h : List Line) (marks : List StopBy)
     (a b : Assoc L) (how : Heard) (k : HasHeard told counts (socks users pubs) generation config a b how) → Stands told (socks users pubs) (with_state a (before (hearing_of told counts users pubs generation config most h marks a b how k)))
@@ -138,48 +141,49 @@ told-heard old new x ends is = is ∙ (λ i. record old { given = more old.given
 
 -- ---- what is owed
 
-nothing-before : (sent rest : List ℕ) → sent ++ rest ≡ [] → sent ≡ []
-nothing-before [] rest h = refl
-nothing-before (b ∷ bs) rest h = absurd (cc)
+-- all that is owed to a client that has no grant, behind what was heard of it
+abbrev pub owes_now : Hearing → Option Cause → List ℕ
+owes_now t cause = opening_owed (t.c ++ t.x) (answered t) cause ++ refusal_owed (t.c ++ t.x) (answered t) None cause
 
-sent-grows : (g : ℕ) (c sent z : List ℕ) (chosen : Option Chosen) → IsPrefix sent (chosen_reply chosen ++ []) → IsPrefix sent (chosen_reply (chosen_as g chosen c) ++ z)
-sent-grows g c sent z None h = (_, ap (λ s. s ++ (chosen_reply (chosen_as g None c) ++ z)) (nothing-before sent h.0 h.1))
-sent-grows g c sent z (Some chosen) h =
-    (h.0 ++ z, sym (append_assoc sent h.0 z) ∙ ap (λ s. s ++ z) (h.1 ∙ append-nil (chosen_reply (Some chosen))))
+-- the cause says of the login what the input does
+abbrev pub Fits : Hearing → Option Cause → Type 0
+Fits t cause = is_login_failed cause ≡ is_failed_split (split_heard t)
 
-pub plain-caused : (t : Hearing) (sent : List ℕ) (ends : Bool) (cause : Option Cause) → (cause ≡ None → (ends ≡ false) × (is_whole_input (t.c ++ t.x) ≡ false))
-    → IsPrefix sent (chosen_reply (answered t) ++ refusal_owed (t.c ++ t.x) None cause) → IsPlainRecord (caused t sent ends cause)
-plain-caused t sent ends cause talks sent' = record {
+pub owes-caused : (t : Hearing) (sent : List ℕ) (ends : Bool) (cause : Option Cause) → Fits t cause → owed_to_client (basis_of t) (caused t sent ends cause) ≡ owes_now t cause
+owes-caused t sent ends cause fits = early-owes t.users t.pubs (caused t sent ends cause) t.served fits refl refl refl
+
+owes-before : (t : Hearing) → owed_to_client (basis_of t) (before t) ≡ opening_owed t.c t.chosen None ++ []
+owes-before t = early-owes t.users t.pubs (before t) (ap is_served_split t.more) (sym (ap is_failed_split t.more)) refl refl refl
+
+further : (sent owed now : List ℕ) → IsPrefix sent owed → IsPrefix owed now → IsPrefix sent now
+further sent owed now p q = (p.0 ++ q.0, sym (append_assoc sent p.0 q.0) ∙ (ap (λ z. z ++ q.0) p.1 ∙ q.1))
+
+-- what was sent stays a first part of what is owed
+pub first-sent : (t : Hearing) (cause : Option Cause) → Fits t cause → IsPrefix t.sent (owes_now t cause)
+first-sent t cause fits =
+    further t.sent (opening_owed t.c t.chosen None ++ []) (owes_now t cause) t.sent'
+    (subst (λ z. IsPrefix z (owes_now t cause)) (owes-before t)
+    (subst (λ z. IsPrefix (owed_to_client (basis_of t) (before t)) z) (owes-caused t t.sent false cause fits)
+    (talk-owes t.users t.pubs t.generation (t.config).methods t.x (before t) cause refl refl)))
+
+pub plain-caused : (t : Hearing) (sent : List ℕ) (ends : Bool) (cause : Option Cause) → (cause ≡ None → (ends ≡ false) × (split_heard t ≡ Split.More)) → Fits t cause
+    → IsPrefix sent (owes_now t cause) → IsPlainRecord t.users (caused t sent ends cause)
+plain-caused t sent ends cause talks fits sent' = record {
   undone = refl;
   unclosed = refl;
   grams = refl;
   sent_u = refl;
   served = t.served;
   chosen' = has-answered t;
+  failed = fits;
   decided = record { untargeted = record { t = refl; sent_t = refl; end_t = refl; shut_c = refl; shut_t = refl }; talks = talks };
   sent_c = sent';
   sent_t = ([], refl);
 }
 
-pub first-sent : (t : Hearing) (z : List ℕ) → IsPrefix t.sent (chosen_reply (answered t) ++ z)
-first-sent t z = sent-grows t.generation (t.c ++ t.x) t.sent z t.chosen t.sent'
-
-pub owes-caused : (t : Hearing) (ends : Bool) (cause : Option Cause) → (cause ≡ None → (ends ≡ false) × (is_whole_input (t.c ++ t.x) ≡ false))
-    → owed_to_client (basis_of t) (caused t t.sent ends cause) ≡ chosen_reply (answered t) ++ refusal_owed (t.c ++ t.x) None cause
-owes-caused t ends cause talks = plain-owes-client t.users t.pubs (caused t t.sent ends cause) (plain-caused t t.sent ends cause talks (first-sent t (refusal_owed (t.c ++ t.x) None cause))) refl
-
 -- what is left to send
-left-to-send : (t : Hearing) (ends : Bool) (cause : Cause) → (rest : List ℕ) × (t.sent ++ rest ≡ owed_to_client (basis_of t) (caused t t.sent ends (Some cause)))
-left-to-send t ends cause = (
-  (first-sent t (refusal_owed (t.c ++ t.x) None (Some cause))).0,
-  (first-sent t (refusal_owed (t.c ++ t.x) None (Some cause))).1 ∙ sym (owes-caused t ends (Some cause) (λ e. absurd (cc))),
-)
-
-some-not-none : (k : Cause) → Some k ≡ None → ⊥
-some-not-none k e = cc
-
-pub short-heard : (t : Hearing) → is_decided (t.c ++ t.x) ≡ false → length t.x < quantum
-short-heard t undecided = let h : length (t.c ++ t.x) < 13 = undecided-short (t.c ++ t.x) undecided in omega (arith, length-append t.c t.x)
+pub left-to-send : (t : Hearing) (ends : Bool) (cause : Cause) → Fits t (Some cause) → (rest : List ℕ) × (t.sent ++ rest ≡ owed_to_client (basis_of t) (caused t t.sent ends (Some cause)))
+left-to-send t ends cause fits = ((first-sent t (Some cause) fits).0, (first-sent t (Some cause) fits).1 ∙ sym (owes-caused t t.sent ends (Some cause) fits))
 
 -- ---- the client has ended
 
@@ -197,19 +201,19 @@ hangs-up {L = L} told counts stands users pubs generation config most h marks no
       told' = told-heard (told a.client) (told b.client) t.x true (k.hears).told';
       sent' = sym (append-nil t.sent);
       behind = gone t;
-      takes = takes-end t [] [] undecided;
+      takes = takes-end t [] [] more;
       open' = heard t;
-      takes_open = takes-open t [] [] (heard t) (settled-undecided t undecided) (heard-nothing t);
+      takes_open = takes-open t [] [] (heard t) (settled-more t more) (heard-nothing t);
       uncalling = ap (λ (p : Phase). is_calling p None) (closing-phase (basis_of t) (gone t) (Cause.ClientGone (length (t.c ++ t.x))) refl refl);
       unread_t = ap (reads_target (heard t)) talks;
       stops_c = StopsReading.ends' refl;
       talks = λ e1. talks;
-      short = λ e1. short-heard t undecided;
+      short = λ e1. t.few;
       faults = refl;
       fits = refl;
-      rest = (left-to-send t true (Cause.ClientGone (length (t.c ++ t.x)))).0;
-      owed' = (left-to-send t true (Cause.ClientGone (length (t.c ++ t.x)))).1;
-      due = inr refl;
+      rest = (left-to-send t true (Cause.ClientGone (length (t.c ++ t.x))) fits).0;
+      owed' = (left-to-send t true (Cause.ClientGone (length (t.c ++ t.x))) fits).1;
+      due = inr (inr refl);
       at_end = λ e1. (k.hears).ends;
       first = (k.hears).first (k.stands).client_first;
       idle_c = λ e1. absurd (cc);
@@ -226,21 +230,24 @@ hangs-up {L = L} told counts stands users pubs generation config most h marks no
     is : b.state ≡ heard t
     is = behind-is told counts users pubs generation config most h marks a b Heard.End k
 
-    undecided : is_decided (t.c ++ t.x) ≡ false
-    undecided = sym (ap is_decided (k.hears).after') ∙ (k.hears).decided'
+    more : split_heard t ≡ Split.More
+    more = heard-as told counts users pubs generation config most h marks a b Heard.End k
+
+    fits : Fits t (Some (Cause.ClientGone (length (t.c ++ t.x))))
+    fits = sym (ap is_failed_split more)
 
     talks : phase (basis_of t) (heard t) ≡ Phase.Talk
-    talks = phase-undecided t t.sent false undecided
+    talks = phase-more t t.sent false more
 
 -- ---- a call on the client has failed
 
-silent-fault : (v : Option Version) → refusal v no_login Cause.ClientFault ≡ []
-silent-fault None = refl
-silent-fault (Some v) = refl
+silent-fault : (v : Option Version) (at : RefusedAt) → refusal v at Cause.ClientFault ≡ []
+silent-fault None at = refl
+silent-fault (Some v) at = refl
 
 -- ClientFault owes no reply
-pub owes-fault : (t : Hearing) → owed_to_client (basis_of t) (caused t t.sent false (Some Cause.ClientFault)) ≡ chosen_reply (answered t) ++ []
-owes-fault t = owes-caused t false (Some Cause.ClientFault) (λ e. absurd (cc)) ∙ ap (λ z. chosen_reply (answered t) ++ z) (silent-fault (version_of (t.c ++ t.x)))
+pub owes-fault : (t : Hearing) (sent : List ℕ) → Fits t None → owed_to_client (basis_of t) (caused t sent false (Some Cause.ClientFault)) ≡ owes_now t None
+owes-fault t sent fits = owes-caused t sent false (Some Cause.ClientFault) fits ∙ ap (λ z. opening_owed (t.c ++ t.x) (answered t) None ++ z) (silent-fault (version_of (t.c ++ t.x)) (refused_at (answered t) (t.c ++ t.x) Cause.ClientFault))
 
 pub reads-fail : {L : Type 0} (told : L → Told) (counts : L → Counts) (stands : List Line → List StopBy → Type 0) (users : List User) (pubs : List Config) (generation : ℕ) (config : Config) (most : ℕ) (h : List Line) (marks : List StopBy)
     (now : ℕ) (net : NetTold) (a b : Assoc L) (e : Ended L) → HasHeard told counts (socks users pubs) generation config a b Heard.Failed → (a.state).since ≡ now
@@ -256,9 +263,9 @@ reads-fail told counts stands users pubs generation config most h marks now net 
       told' = told-heard (told a.client) (told b.client) t.x false (k.hears).told';
       sent' = sym (append-nil t.sent);
       behind = heard t;
-      takes = takes-open t [] [] (heard t) (settled-undecided t undecided) (heard-nothing t);
+      takes = takes-open t [] [] (heard t) (settled-more t more) (heard-nothing t);
       open' = heard t;
-      takes_open = takes-open t [] [] (heard t) (settled-undecided t undecided) (heard-nothing t);
+      takes_open = takes-open t [] [] (heard t) (settled-more t more) (heard-nothing t);
       uncalling = ap (λ (p : Phase). is_calling p None) talks;
       unread_t = ap (reads_target (heard t)) talks;
       stops_c = StopsReading.failed refl;
@@ -266,9 +273,9 @@ reads-fail told counts stands users pubs generation config most h marks now net 
       short = λ e1. absurd (cc);
       faults = refl;
       fits = ap (λ (p : Phase). (reads_in (heard t) p Object.Client || has_pending (basis_of t) (heard t) Object.Client || may_be_shut (basis_of t) (heard t) Object.Client) && true) talks;
-      rest = (left-to-send t false Cause.ClientFault).0;
-      owed' = (left-to-send t false Cause.ClientFault).1;
-      due = inr refl;
+      rest = (left-to-send t false Cause.ClientFault fits).0;
+      owed' = (left-to-send t false Cause.ClientFault fits).1;
+      due = inr (inr refl);
       at_end = λ e1. absurd (cc);
       first = (k.hears).first (k.stands).client_first;
       idle_c = λ e1. absurd (cc);
@@ -282,123 +289,14 @@ reads-fail told counts stands users pubs generation config most h marks now net 
     is : b.state ≡ heard t
     is = behind-is told counts users pubs generation config most h marks a b Heard.Failed k
 
-    undecided : is_decided (t.c ++ t.x) ≡ false
-    undecided = sym (ap is_decided (k.hears).after') ∙ (k.hears).decided'
+    more : split_heard t ≡ Split.More
+    more = heard-as told counts users pubs generation config most h marks a b Heard.Failed k
+
+    fits : Fits t (Some Cause.ClientFault)
+    fits = sym (ap is_failed_split more)
 
     talks : phase (basis_of t) (heard t) ≡ Phase.Talk
-    talks = phase-undecided t t.sent false undecided
+    talks = phase-more t t.sent false more
 
     clash : (told a.client).unfailing ≡ true → (told b.client).unfailing ≡ false → ⊥
     clash e1 e2 = let e3 : (told b.client).unfailing ≡ (told a.client).unfailing = ap (λ (z : Told). z.unfailing) (k.hears).told' in cc
-
--- ---- a served prelude is whole once it is decided
-
-decided-whole : (c : List ℕ) → is_served_input c ≡ true → is_decided c ≡ true → is_whole_input c ≡ true
-decided-whole [] served h = absurd (cc)
-decided-whole (b ∷ bs) served h = by (b == 4) (b == 5) refl refl served h
-  where
-    by : (four five : Bool) → b == 4 ≡ four → b == 5 ≡ five → (if four then false else (if five then agrees served_prelude (b ∷ bs) else true)) ≡ true
-        → (if five then nat_le 13 (length (b ∷ bs)) else true) ≡ true → is_whole_input (b ∷ bs) ≡ true
-    by true five e4 e5 s k = absurd (cc)
-    by false true e4 e5 s k = rw (e4, e5) (both-true (agrees served_prelude (b ∷ bs)) (nat_le 13 (length (b ∷ bs))) s k)
-    by false false e4 e5 s k = rw (e4, e5) refl
-
-pub never-more : {L : Type 0} (told : L → Told) (counts : L → Counts) (basis : Basis) (generation : ℕ) (config : Config) (a b : Assoc L) → HasHeard told counts basis generation config a b Heard.Decided
-    → (is_served_input (b.state).c ≡ true → is_whole_input (b.state).c ≡ false) → ⊥
-never-more told counts basis generation config a b k unwhole = clash (is_whole_input (b.state).c) (decided-whole (b.state).c served (k.hears).decided') (unwhole served)
-  where
-    served : is_served_input (b.state).c ≡ true
-    served = ap is_served_input (k.hears).after'
-        ∙ served-heard (told a.client) (told b.client) (a.state).c (a.state).sent_c (k.hears).bytes (a.state).end_c (a.state).shut_c false k.served (k.stands).client (k.stands).client_first (k.hears).first (k.hears).told'
-
-    clash : (x : Bool) → x ≡ true → x ≡ false → ⊥
-    clash x h1 h2 = cc
-
--- ---- another version
-
-other-whole : (c : List ℕ) (byte : ℕ) → is_served_input c ≡ true → IsOther c byte → is_whole_input c ≡ true
-other-whole c byte served h = ap is_whole_input h.bytes' ∙ by (byte == 4) refl (sym (ap is_served_input h.bytes') ∙ served)
-  where
-    by : (four : Bool) → byte == 4 ≡ four → is_served_input (byte ∷ h.payload) ≡ true → is_whole_input (byte ∷ h.payload) ≡ true
-    by true e k = let z : is_served_input (byte ∷ h.payload) ≡ false = rw e refl in absurd (cc)
-    by false e k = rw (e, h.other) refl
-
-other-version : (c : List ℕ) (byte : ℕ) → is_served_input c ≡ true → IsOther c byte → version_of c ≡ None
-other-version c byte served h = ap version_of h.bytes' ∙ by (byte == 4) refl (sym (ap is_served_input h.bytes') ∙ served)
-  where
-    by : (four : Bool) → byte == 4 ≡ four → is_served_input (byte ∷ h.payload) ≡ true → version_of (byte ∷ h.payload) ≡ None
-    by true e k = let z : is_served_input (byte ∷ h.payload) ≡ false = rw e refl in absurd (cc)
-    by false e k = rw (e, h.other) refl
-
-other-not-greeted : (byte : ℕ) (bs : List ℕ) → byte == 5 ≡ false → is_greeted (byte ∷ bs) ≡ false
-other-not-greeted byte [] e = refl
-other-not-greeted byte (b1 ∷ []) e = refl
-other-not-greeted byte (b1 ∷ b2 ∷ bs) e = e
-
-unanswered : (c : List ℕ) (chosen : Option Chosen) → is_greeted c ≡ false → HasChosen c chosen → chosen_reply chosen ≡ []
-unanswered c None e h = refl
-unanswered c (Some chosen) e h = let z : is_greeted c ≡ true = h.1 in absurd (cc)
-
--- nothing is owed to it
-owes-other : (t : Hearing) (byte : ℕ) → IsOther (t.c ++ t.x) byte → owed_to_client (basis_of t) (bad_version t byte) ≡ []
-owes-other t byte h =
-    owes-caused t false (Some (Cause.BadVersion 0 byte)) (λ e. absurd (cc))
-    ∙ (ap (λ z. z ++ refusal (version_of (t.c ++ t.x)) no_login (Cause.BadVersion 0 byte))
-    (unanswered (t.c ++ t.x) (answered t) (ap is_greeted h.bytes' ∙ other-not-greeted byte h.payload h.other) (has-answered t))
-    ∙ ap (λ (v : Option Version). refusal v no_login (Cause.BadVersion 0 byte)) (other-version (t.c ++ t.x) byte t.served h))
-
-drop-none : (n : ℕ) → is_nothing (drop n []) ≡ true
-drop-none zero = refl
-drop-none (suc n) = refl
-
-pub turns-away : {L : Type 0} (told : L → Told) (counts : L → Counts) (stands : List Line → List StopBy → Type 0) (users : List User) (pubs : List Config) (generation : ℕ) (config : Config) (most : ℕ) (h : List Line) (marks : List StopBy)
-    (now : ℕ) (net : NetTold) (a b : Assoc L) (e : Ended L) (byte : ℕ) → HasHeard told counts (socks users pubs) generation config a b Heard.Decided → (a.state).since ≡ now → IsOther (b.state).c byte
-    → (is_udp b.state ≡ false → Closed stands h marks (Cause.BadVersion 0 byte) b e)
-    → Turns told counts stands (context users pubs generation config most h marks) now net net a (Next.Done e)
-turns-away told counts stands users pubs generation config most h marks now net a b e byte k since other closed =
-    turns-before told counts stands users pubs generation config most h marks now net a b Heard.Decided (Next.Done e) k since
-    (turns-closed told counts stands t net a b e [] t.sent false false None false (Cause.BadVersion 0 byte)
-    (stands-before told counts users pubs generation config most h marks a b Heard.Decided k) (record {
-      closed = closed (ap is_udp is);
-      state' = is;
-      target' = k.target';
-      told' = told-heard (told a.client) (told b.client) t.x false (k.hears).told';
-      sent' = sym (append-nil t.sent);
-      behind = bad_version t byte;
-      takes = takes-open t [] [] (bad_version t byte) (settled-other t byte other') nothing;
-      open' = bad_version t byte;
-      takes_open = takes-open t [] [] (bad_version t byte) (settled-other t byte other') nothing;
-      uncalling = ap (λ (p : Phase). is_calling p None) closes';
-      unread_t = ap (reads_target (bad_version t byte)) closes';
-      stops_c = StopsReading.unread (ap (reads_client (basis_of t) [] [] (bad_version t byte)) closes');
-      talks = λ e1. absurd (cc);
-      short = λ e1. absurd (cc);
-      faults = refl;
-      fits = refl;
-      rest = (left-to-send t false (Cause.BadVersion 0 byte)).0;
-      owed' = (left-to-send t false (Cause.BadVersion 0 byte)).1;
-      due = inl (ap (λ z. is_nothing (drop (length t.sent) z) && true) (owes-other t byte other') ∙ ap (λ z. z && true) (drop-none (length t.sent)));
-      at_end = λ e1. absurd (cc);
-      first = (k.hears).first (k.stands).client_first;
-      idle_c = λ e1. absurd (cc);
-      fails_c = λ e1. absurd (cc);
-      unfailing = λ e1. (refl, refl);
-    }))
-  where
-    t : Hearing
-    t = hearing_of told counts users pubs generation config most h marks a b Heard.Decided k
-
-    is : b.state ≡ heard t
-    is = behind-is told counts users pubs generation config most h marks a b Heard.Decided k
-
-    other' : IsOther (t.c ++ t.x) byte
-    other' = subst (λ (c : List ℕ). IsOther c byte) (k.hears).after' other
-
-    closes' : phase (basis_of t) (bad_version t byte) ≡ Phase.Closing
-    closes' = closing-phase (basis_of t) (bad_version t byte) (Cause.BadVersion 0 byte) refl refl
-
-    nothing : t.x ≡ [] → before t ≡ bad_version t byte
-    nothing none = absurd (contradiction (ap is_whole_input (ap (λ x. t.c ++ x) none ∙ append-nil t.c)) (other-whole (t.c ++ t.x) byte t.served other') t.unwhole)
-      where
-        contradiction : is_whole_input (t.c ++ t.x) ≡ is_whole_input t.c → is_whole_input (t.c ++ t.x) ≡ true → is_whole_input t.c ≡ false → ⊥
-        contradiction e1 e2 e3 = cc

@@ -1,10 +1,33 @@
--- How reads of a client add up.
-use Rattle.std.proofs.Common.{◌≡◌, ◌<◌, ℕ, Bool, true, false, Option, List, [], ◌∷◌, ◌++◌, ◌==◌, nat_le, if◌then◌else◌, length, ap, sym, ◌∙◌, append_assoc, arith}
-use Rattle.std.proofs.lemmas.List.{append-nil}
-use Rattle.net_ends.specs.Told.{Told, more}
-use Rattle.assoc_core.specs.Hearing.{is_decided}
-use Rattle.assoc_core.specs.Reads.{Comes, ComesOf}
-use Rattle.assoc_core.proofs.Sendings.{more-nil, more-more}
+-- How reads of a client add up, and what they come to.
+use Rattle.std.proofs.Common.{◌≡◌, ◌<◌, ◌≤◌, ◌+◌, ◌-◌, ℕ, true, Option, Some, None, option_map, List, [], ◌∷◌, ◌++◌, length, take, drop, refl, ap, sym, subst, ◌∙◌, append_assoc, length-append, arith}
+use Rattle.std.proofs.lemmas.List.{append-nil, take_all}
+use Rattle.std.proofs.Math.Seq.{drop-append_seam}
+use mathlib.Core.List.{IsPrefix}
+use Rattle.conf_model.specs.declared.config.Config.{Config}
+use Rattle.conf_model.specs.declared.user.User.{User}
+use Rattle.conf_model.specs.Handshake.{split}
+use Rattle.conf_model.specs.Plain.{IsPlain}
+use Rattle.conf_model.specs.declared.protocol.Method.{Method}
+use Rattle.handshake_core.specs.declared.taken.Taken.{Taken}
+use Rattle.handshake_core.specs.Due.{Client, method_after}
+use Rattle.handshake_core.specs.Taking.{Takes}
+use Rattle.net_ends.specs.declared.link.Reading.{Reading}
+use Rattle.net_ends.specs.Counts.{Counts, Later, Rose}
+use Rattle.net_ends.specs.Told.{Told, GivesArrived, more}
+use Rattle.rule_list.specs.Rules.{numbered}
+use Rattle.socks_machine.specs.declared.record.Chosen.{Chosen}
+use Rattle.socks_machine.specs.declared.record.Decision.{Decision}
+use Rattle.socks_machine.specs.Socks.{socks}
+use Rattle.socks_machine.specs.Taking.{chosen_after}
+use Rattle.socks_machine.specs.Turn.{quantum}
+use Rattle.assoc_core.specs.declared.assoc.Assoc.{Assoc}
+use Rattle.assoc_core.specs.declared.hear.Heard.{Heard}
+use Rattle.assoc_core.specs.Hearing.{Hears, HeardAs, HasHeard, chosen_as, methods_by}
+use Rattle.assoc_core.specs.Reads.{Comes, ComesOf, Rests}
+use Rattle.assoc_core.specs.Stands.{Stands, TellsServed, GivesFirst}
+use Rattle.assoc_core.proofs.Choosing.{HasTaken, chosen-is, method-is, takes-behind}
+use Rattle.assoc_core.proofs.Sendings.{more-nil, more-more, later-on, rose-before}
+use Rattle.assoc_core.proofs.Carryings.{prefix-same}
 
 pub comes-none : (told : Told) (before : List ℕ) → Comes told told before before
 comes-none told before = record {
@@ -22,11 +45,103 @@ comes-on first told now before mid after most n h k = record {
       ∙ ap (λ (z : Option (List ℕ)). let u : Told = record first { given = z } in u) (more-more first.given h.bytes k.bytes));
 }
 
--- fewer bytes than a prelude has
-pub undecided-short : (c : List ℕ) → is_decided c ≡ false → length c < 13
-undecided-short [] h = omega arith
-undecided-short (b ∷ bs) h = by (b == 5) h
+-- ---- the client may send more
+
+-- an input that is open is short
+pub open-short : (methods : List Method) (users : List User) (text : List ℕ) (taken : Taken) (client : Client) → HasTaken methods users text taken client → taken ≡ Taken.Open → length client.bytes ≤ 1289 → length text ≤ 1289
+open-short methods users text taken client h is short =
+    let k = subst (λ (z : Taken). HasTaken methods users text z client) is h in
+    subst (λ (z : List ℕ). length z ≤ 1289) k.is.0 short
+
+-- a piece more is still less than a quantum
+pub few-on : (told now : Told) (text after : List ℕ) (n start : ℕ) → length text ≤ 1289 → ComesOf told now text after 16384 n → length after < quantum + start
+few-on told now text after n start short h =
+    let e : length after ≡ length text + length h.bytes = ap (λ (z : List ℕ). length z) h.after' ∙ length-append text h.bytes in
+    let k = h.count in
+    let m = h.within in
+    omega (arith, e, k, m, short)
+
+-- the bytes of a read, as they are cut off the text
+cut-is : (text x after : List ℕ) (at : ℕ) → at ≡ length text → after ≡ text ++ x → take (length after - at) (drop at after) ≡ x
+cut-is text x after at at' after' =
+    let e : drop at after ≡ x = (λ i. drop (at' i) (after' i)) ∙ drop-append_seam text x in
+    let n : length after - at ≡ length x = omega (arith, ap (λ (z : List ℕ). length z) after', length-append text x, at') in
+    (λ i. take (n i) (e i)) ∙ take_all (length x) x (omega arith)
+
+pub takes-on : (methods : List Method) (users : List User) (old new : Client) (text after slice : List ℕ) (at most n : ℕ) (told now : Told) (was taken : Taken)
+    → HasTaken methods users text was old → was ≡ Taken.Open → ComesOf told now text after most n → at ≡ length text → slice ≡ after
+    → Takes methods users old (take (length slice - at) (drop at slice)) taken new → HasTaken methods users after taken new
+takes-on methods users old new text after slice at most n told now was taken h is c at' slice' k =
+    subst (λ (z : List ℕ). HasTaken methods users z taken new) (sym c.after')
+    (takes-behind methods users old new text c.bytes taken (subst (λ (z : Taken). HasTaken methods users text z old) is h)
+    (subst (λ (z : List ℕ). Takes methods users old z taken new) (cut-is text c.bytes slice at at' (slice' ∙ c.after')) k))
+
+-- ---- no more comes
+
+pub fewer-bytes : (before bytes mid : List ℕ) → mid ≡ before ++ bytes → length mid < quantum + length before → length bytes < quantum
+fewer-bytes before bytes mid e h = let k = ap (λ (z : List ℕ). length z) e in omega (arith, h, k, length-append before bytes)
+
+pub hears-end : (first told now : Told) (counts counts' counts'' : Counts) (before mid after : List ℕ) → Comes first told before mid → length mid < quantum + length before → Later counts counts'
+    → (after ≡ mid) × (now ≡ record told { ended = true }) → GivesArrived now Reading.End → Later counts' counts'' → Hears first now counts counts'' before after Heard.End
+hears-end first told now counts counts' counts'' before mid after h few later read arrived later' = record {
+  bytes = h.bytes;
+  after' = read.0 ∙ h.after';
+  few = fewer-bytes before h.bytes mid h.after' few;
+  told' = read.1 ∙ ap (λ (z : Told). let u : Told = record z { ended = true } in u) h.told';
+  first = λ x arrival given a b. subst (λ (z : List ℕ). IsPrefix z arrival.bytes) (sym (arrived arrival given a b).0) (prefix-same arrival.bytes);
+  later = later-on counts counts' counts'' later later';
+  ends = λ arrival given a b. arrived arrival given a b;
+}
+
+pub hears-nothing : (first told now : Told) (counts counts' counts'' : Counts) (before mid after : List ℕ) → Comes first told before mid → length mid < quantum + length before
+    → (GivesFirst first → GivesFirst told) → Later counts counts' → Rests told now mid after → GivesArrived now Reading.NotYet → Later counts' counts'' → Rose counts'.idle_reads counts''.idle_reads
+    → Hears first now counts counts'' before after Heard.NotYet
+hears-nothing first told now counts counts' counts'' before mid after h few firsts later read arrived later' rose = record {
+  bytes = h.bytes;
+  after' = read.after' ∙ h.after';
+  few = fewer-bytes before h.bytes mid h.after' few;
+  told' = read.told' ∙ h.told';
+  first = λ x. subst GivesFirst (sym read.told') (firsts x);
+  later = later-on counts counts' counts'' later later';
+  ends = (arrived, rose-before _ _ _ later.idle_reads rose);
+}
+
+-- what was heard, as the code has it
+pub heard-of : {L : Type 0} (told : L → Told) (counts : L → Counts) (users : List User) (pubs : List Config) (generation : ℕ) (config : Config) (a : Assoc L) (client : L) (c : List ℕ)
+    (method : Option ℕ) (chosen : Option Chosen) (heard : Heard) (generation' : ℕ) (rule : Option ℕ)
+    → Stands told (socks users pubs) a → TellsServed users (told a.client) → numbered pubs generation ≡ Some config → IsPlain config
+    → (a.state).cause ≡ None → (a.state).decisions ≡ Decision.Opened generation' rule None ∷ []
+    → Hears (told a.client) (told client) (counts a.client) (counts client) (a.state).c c heard
+    → method ≡ method_after (methods_by (a.state).chosen config.methods) None c → HeardAs (split users method c) heard → chosen ≡ chosen_as generation (a.state).chosen method
+    → HasHeard told counts (socks users pubs) generation config a (record { state = (let r = a.state in record r { c = c; chosen = chosen }); client = client; target = a.target }) heard
+heard-of told counts users pubs generation config a client c method chosen heard generation' rule standing tells published plain uncaused opens hears method' heard' chosen' = record {
+  stands = standing;
+  served = tells;
+  published = published;
+  plain = plain;
+  generation' = generation';
+  rule = rule;
+  opened' = opens;
+  uncaused = uncaused;
+  hears = hears;
+  state' = λ i. let r = a.state in record r { c = hears.after' i; chosen = chosen-now i };
+  heard' = subst (λ (o : Option Chosen). HeardAs (split users (option_map (λ c. c.method) o) c) heard) (sym chosen-then) (subst (λ (m : Option ℕ). HeardAs (split users m c) heard) method-now heard');
+  target' = refl;
+}
   where
-    by : (five : Bool) → (if five then nat_le 13 (length (b ∷ bs)) else true) ≡ false → length (b ∷ bs) < 13
-    by true k = grind (arith, k)
-    by false k = absurd (cc)
+    was : Option Chosen
+    was = (a.state).chosen
+
+    x : List ℕ
+    x = hears.bytes
+
+    chosen-then : chosen ≡ chosen_after generation config.methods was c
+    chosen-then = chosen' ∙ chosen-is generation config.methods was c method method'
+
+    chosen-now : chosen ≡ chosen_after generation config.methods was ((a.state).c ++ x)
+    chosen-now = chosen-then ∙ ap (chosen_after generation config.methods was) hears.after'
+
+    method-now : method ≡ option_map (λ c. c.method) (chosen_after generation config.methods was c)
+    method-now =
+        method-is generation config.methods was (a.state).c x method (standing.plain).chosen' (method' ∙ ap (method_after (methods_by was config.methods) None) hears.after')
+        ∙ ap (λ z. option_map (λ c. c.method) (chosen_after generation config.methods was z)) (sym hears.after')

@@ -9,8 +9,12 @@ pub mod Hearings
 pub mod Later
 pub mod LinksHeld
 pub mod PassLaws
+pub mod Inputs
+pub mod Payload
+pub mod Choosing
+pub mod Rests
+pub mod TurnsAway
 pub mod PlainRecords
-pub mod PreludeBytes
 pub mod ReachEnds
 pub mod ReachTurns
 pub mod Reaching
@@ -21,7 +25,6 @@ pub mod RelayRecords
 pub mod RelaySums
 pub mod RelayTurns
 pub mod Sendings
-pub mod ServedInput
 pub mod StandsLaws
 pub mod TalkCloses
 pub mod TalkTurns

@@ -1,15 +1,14 @@
--- What the definitions say of a record of the first path: its split, its phase and what it owes.
-use Rattle.std.proofs.Common.{◌≡◌, ℕ, Bool, true, false, ◌&&◌, ◌==◌, if◌then◌else◌, Option, Some, None, List, [], ◌∷◌, ◌++◌, refl, sym, ap, ◌∙◌, is_some, is_none, option_and_then, drop, append_assoc, arith}
+-- What the definitions say of a record that is served: its phase and what it owes.
+use Rattle.std.proofs.Common.{◌≡◌, ℕ, Bool, true, false, ◌&&◌, ◌==◌, if◌then◌else◌, Option, Some, None, List, [], ◌∷◌, ◌++◌, not, refl, sym, ap, subst, eqb-true, ◌∙◌, is_some, is_none, option_and_then, drop, append_assoc}
 use Rattle.std.proofs.lemmas.List.{append-nil}
+use Rattle.addr_pattern.specs.declared.addr.Addr.{Addr}
 use Rattle.addr_pattern.specs.declared.endpoint.Endpoint.{Endpoint}
 use Rattle.addr_pattern.specs.declared.host.Host.{Host}
 use Rattle.conf_model.specs.declared.config.Config.{Config}
 use Rattle.conf_model.specs.declared.protocol.Command.{Command}
-use Rattle.conf_model.specs.declared.protocol.Method.{Method}
-use Rattle.conf_model.specs.declared.protocol.Version.{Version}
 use Rattle.conf_model.specs.declared.user.User.{User}
 use Rattle.conf_model.specs.Grammar.{greeting}
-use Rattle.conf_model.specs.Handshake.{Request, Split, version_of, greeting_length}
+use Rattle.conf_model.specs.Handshake.{Request, Split, split, version_of, login_place}
 use Rattle.rule_list.specs.declared.facts.Facts.{Facts}
 use Rattle.rule_list.specs.declared.verdict.Verdict.{Verdict}
 use Rattle.rule_list.specs.Rules.{numbered}
@@ -23,118 +22,77 @@ use Rattle.socks_machine.specs.Front.{Proxy}
 use Rattle.socks_machine.specs.Owed.{owed_to_client, owed_to_target, refusal_of_in, granted_replies_in, target_by}
 use Rattle.socks_machine.specs.Phase.{Phase, phase, way, phase_split_in, relay_began, phase_opened_in, phase_by_command, phase_connect, target_payload, client_payload, began_by, replies_length}
 use Rattle.socks_machine.specs.Replies.{refusal}
-use Rattle.socks_machine.specs.Served.{is_served_input, is_whole_input}
-use Rattle.socks_machine.specs.Socks.{socks, chosen_reply, passed_reply, success, is_in_login, is_granting_udp, is_proxy5}
+use Rattle.socks_machine.specs.Inputs.{is_served_split, is_connect_command, is_address}
+use Rattle.socks_machine.specs.Socks.{socks, chosen_reply, passed_reply, success, is_in_login, is_granting_udp, is_proxy5, is_udp_command, has_address}
 use Rattle.socks_machine.specs.Step.{fresh}
 use Rattle.socks_machine.specs.View.{view, length_of, proxy_of, proxy_in, proxy_of_grant, outcome_with, said_with, said_to_proxy, split_of, login_passed, login_fits_behind, asks_login}
-use Rattle.assoc_core.specs.Plain.{IsPlainRecord, HasChosen, HasDecided, Talking, Judged, Dialled, owed_c, owed_t, plain_to_client, plain_to_target, refusal_owed}
-use Rattle.assoc_core.specs.Preludes.{IsConnect, address_at}
-use Rattle.assoc_core.proofs.ServedInput.{split-served, served_split, served-forms, other-split}
+use Rattle.assoc_core.specs.Plain.{IsPlainRecord, HasAsked, HasDecided, Talking, Judged, Dialled, split_by, split_in, prelude_of, has_passed, is_login_failed, is_failed_split, opening_owed, owed_c, owed_t, plain_to_client, plain_to_target, refusal_owed}
+use Rattle.assoc_core.proofs.Inputs.{login-passed}
+use Rattle.assoc_core.proofs.Payload.{length-is}
 
 -- ---- what was decided
 
 -- what holds of each form of the decisions holds of them
-pub record DecidedForms (r : Record) (P : List Decision → Type 0) : Type 0 where
+pub record DecidedForms (users : List User) (r : Record) (P : List Decision → Type 0) : Type 0 where
   pub nothing : r ≡ fresh r.number r.peer r.local r.since → P []
-  pub opened' : (g : ℕ) (rule : Option ℕ) → Talking r → P (Decision.Opened g rule None ∷ [])
-  pub granted' : (g : ℕ) (rule : Option ℕ) (g' : ℕ) (facts : Facts) (verdict : Verdict) (route : Option ℕ) (refused : Option Cause) → Judged r facts refused
+  pub opened' : (g : ℕ) (rule : Option ℕ) → Talking users r → P (Decision.Opened g rule None ∷ [])
+  pub granted' : (g : ℕ) (rule : Option ℕ) (g' : ℕ) (facts : Facts) (verdict : Verdict) (route : Option ℕ) (refused : Option Cause) → Judged users r facts refused
       → P (Decision.Opened g rule None ∷ Decision.Granted g' facts verdict route refused ∷ [])
-  pub reached' : (g : ℕ) (rule : Option ℕ) (g' : ℕ) (facts : Facts) (verdict : Verdict) (route : Option ℕ) (to : Endpoint) (at : Option Endpoint) → Dialled r facts at
+  pub reached' : (g : ℕ) (rule : Option ℕ) (g' : ℕ) (facts : Facts) (verdict : Verdict) (route : Option ℕ) (to : Endpoint) (at : Option Endpoint) → Dialled users r facts at
       → P (Decision.Opened g rule None ∷ Decision.Granted g' facts verdict route None ∷ Decision.Reached to at ∷ [])
 
-pub decided-forms : (r : Record) (P : List Decision → Type 0) → DecidedForms r P → (ds : List Decision) → HasDecided r ds → P ds
-decided-forms r P f [] h = f.nothing h
-decided-forms r P f (Decision.Opened g rule None ∷ []) h = f.opened' g rule h
-decided-forms r P f (Decision.Opened g rule None ∷ Decision.Granted g' facts verdict route refused ∷ []) h = f.granted' g rule g' facts verdict route refused h
-decided-forms r P f (Decision.Opened g rule None ∷ Decision.Granted g' facts verdict route None ∷ Decision.Reached to at ∷ []) h = f.reached' g rule g' facts verdict route to at h
-decided-forms r P f _ h = absurd h
+pub decided-forms : (users : List User) (r : Record) (P : List Decision → Type 0) → DecidedForms users r P → (ds : List Decision) → HasDecided users r ds → P ds
+decided-forms users r P f [] h = f.nothing h
+decided-forms users r P f (Decision.Opened g rule None ∷ []) h = f.opened' g rule h
+decided-forms users r P f (Decision.Opened g rule None ∷ Decision.Granted g' facts verdict route refused ∷ []) h = f.granted' g rule g' facts verdict route refused h
+decided-forms users r P f (Decision.Opened g rule None ∷ Decision.Granted g' facts verdict route None ∷ Decision.Reached to at ∷ []) h = f.reached' g rule g' facts verdict route to at h
+decided-forms users r P f _ h = absurd h
 
 -- ---- the login
 
-unasked : (chosen : Option Chosen) (c : List ℕ) → HasChosen c chosen → asks_login chosen ≡ false
-unasked None c h = refl
-unasked (Some chosen) c h = ap (λ m. m == 2) h.0
-
-pub no-login-passed : (basis : Basis) (r : Record) → HasChosen r.c r.chosen → login_passed basis r ≡ false
-no-login-passed basis r h = ap (λ b. elim b [ true ↦ login_fits_behind basis (greeting 0 r.c) | false ↦ false ]) (unasked r.chosen r.c h)
-
--- ---- the split
-
-pub plain-split : (users : List User) (pubs : List Config) (r : Record) → is_served_input r.c ≡ true → HasChosen r.c r.chosen
-    → split_of (socks users pubs) r ≡ served_split r.c
-plain-split users pubs r served h = split-served users r.c served r.chosen h
-
--- a prelude that isn't whole yet has more to come
-pub more-split : (c : List ℕ) → is_served_input c ≡ true → is_whole_input c ≡ false → served_split c ≡ Split.More
-more-split c served = served-forms (λ c. is_whole_input c ≡ false → served_split c ≡ Split.More) (record {
-  none = λ h. refl;
-  other = λ b bs e4 e5 h. absurd (other-is-whole b bs e4 e5 h);
-  one = λ h. refl;
-  two = λ h. refl;
-  three = λ h. refl;
-  four = λ h. refl;
-  five = λ h. refl;
-  six = λ r h. refl;
-  seven = λ r h. refl;
-  eight = λ r a h. refl;
-  nine = λ r a b h. refl;
-  ten = λ r a b c h. refl;
-  eleven = λ r a b c d h. refl;
-  twelve = λ r a b c d p h. refl;
-  whole = λ r a b c d p q bs h. absurd (whole-is-whole r a b c d p q bs h);
-}) c served
+asked-login : (users : List User) (pubs : List Config) (chosen : Option Chosen) (c : List ℕ) (cause : Option Cause) → is_login_failed cause ≡ is_failed_split (split_by users chosen c)
+    → elim (asks_login chosen) [ true ↦ login_fits_behind (socks users pubs) (greeting 0 c) | false ↦ false ] ≡ has_passed chosen c cause
+asked-login users pubs None c cause h = refl
+asked-login users pubs (Some chosen) c cause h = by (chosen.method == 2) refl
   where
-    other-is-whole : (b : ℕ) (bs : List ℕ) → b == 4 ≡ false → b == 5 ≡ false → is_whole_input (b ∷ bs) ≡ false → ⊥
-    other-is-whole b bs e4 e5 h = let k : is_whole_input (b ∷ bs) ≡ true = rw (e4, e5) refl in cc
+    by : (asks : Bool) → chosen.method == 2 ≡ asks → elim (chosen.method == 2) [ true ↦ login_fits_behind (socks users pubs) (greeting 0 c) | false ↦ false ] ≡ has_passed (Some chosen) c cause
+    by false e = rw e refl
+    by true e =
+        let m : chosen.method ≡ 2 = eqb-true chosen.method 2 e in
+        let k : is_login_failed cause ≡ is_failed_split (split users (Some 2) c) = subst (λ n. is_login_failed cause ≡ is_failed_split (split users (Some n) c)) m h in
+        rw e (login-passed users pubs c ∙ ap (λ b. is_some (login_place c) && not b) (sym k))
 
-    whole-is-whole : (r a b c d p q : ℕ) (bs : List ℕ) → is_whole_input (5 ∷ 1 ∷ 0 ∷ 5 ∷ 1 ∷ r ∷ 1 ∷ a ∷ b ∷ c ∷ d ∷ p ∷ q ∷ bs) ≡ false → ⊥
-    whole-is-whole r a b c d p q bs h = let k : is_whole_input (5 ∷ 1 ∷ 0 ∷ 5 ∷ 1 ∷ r ∷ 1 ∷ a ∷ b ∷ c ∷ d ∷ p ∷ q ∷ bs) ≡ true = grind arith in cc
-
-abbrev pub request_to : Endpoint → Request
-request_to to = record { version = Version.V5; method = Method.NoAuth; user = None; command = Command.Connect; host = Host.Addr to.addr; port = to.port }
-
-pub connect-split : (c : List ℕ) (to : Endpoint) → IsConnect c to → served_split c ≡ Split.Whole (request_to to) 13
-connect-split c to h = ap served_split h.bytes' ∙ ap (λ z. Split.Whole (request_to z) 13) (sym h.to')
+pub record-passed : (users : List User) (pubs : List Config) (r : Record) → is_login_failed r.cause ≡ is_failed_split (split_in users r) → login_passed (socks users pubs) r ≡ has_passed r.chosen r.c r.cause
+record-passed users pubs r h = asked-login users pubs r.chosen r.c r.cause h
 
 -- ---- refusals
 
--- no grant for UDP is due
-not-udp : (c : List ℕ) → is_served_input c ≡ true → (ds : List Decision) → is_granting_udp ds (served_split c) ≡ false
-not-udp c served = served-forms (λ c. (ds : List Decision) → is_granting_udp ds (served_split c) ≡ false) (record {
-  none = λ ds. refl;
-  other = λ b bs e4 e5 ds. ap (is_granting_udp ds) (other-split b bs e5);
-  one = λ ds. refl;
-  two = λ ds. refl;
-  three = λ ds. refl;
-  four = λ ds. refl;
-  five = λ ds. refl;
-  six = λ r ds. refl;
-  seven = λ r ds. refl;
-  eight = λ r a ds. refl;
-  nine = λ r a b ds. refl;
-  ten = λ r a b c ds. refl;
-  eleven = λ r a b c d ds. refl;
-  twelve = λ r a b c d p ds. refl;
-  whole = λ r a b c d p q bs ds. refl;
-}) c served
+-- a CONNECT is no request for UDP
+unserved-udp : (k : Command) (host : Host) (ds : List Decision) → is_connect_command k && is_address host ≡ true → is_udp_command k && has_address ds host && is_none (granted ds) ≡ false
+unserved-udp Command.Connect host ds h = refl
+unserved-udp Command.Bind host ds h = refl
+unserved-udp Command.UdpAssociate host ds h = absurd (cc)
+unserved-udp Command.BindReply host ds h = refl
+unserved-udp Command.UdpReply host ds h = refl
 
-unlogged : (chosen : Option Chosen) (c : List ℕ) → asks_login chosen ≡ false → (cause : Cause) → is_in_login chosen c cause ≡ false
-unlogged chosen c h (Cause.BadVersion at byte) = ap (λ b. b && (at == greeting_length c)) h
-unlogged chosen c h _ = refl
+-- no grant for UDP is due
+not-udp : (ds : List Decision) (s : Split) → is_served_split s ≡ true → is_granting_udp ds s ≡ false
+not-udp ds (Split.Whole q n) h = unserved-udp q.command q.host ds h
+not-udp ds (Split.Bad at byte kind) h = refl
+not-udp ds Split.NoMethod h = refl
+not-udp ds Split.LoginFailed h = refl
+not-udp ds Split.More h = refl
 
 -- ---- what is owed to the client
 
-refused-early : (users : List User) (pubs : List Config) (x : Record) → is_served_input x.c ≡ true → HasChosen x.c x.chosen
+refused-early : (users : List User) (pubs : List Config) (x : Record) → is_served_split (split_in users x) ≡ true
     → relay_began (socks users pubs) x ≡ false → proxy_of (socks users pubs) x ≡ None
-    → (cause : Option Cause) → refusal_of_in (view (socks users pubs) x) x cause ≡ refusal_owed x.c None cause
-refused-early users pubs x served chosen unbegan direct None = refl
-refused-early users pubs x served chosen unbegan direct (Some cause) =
-    ap (λ b. if b then [] else refusal (version_of x.c) (record { in_login = in_login; proxy5 = is_proxy5 proxy; granting_udp = udp }) cause) unbegan
-    ∙ (λ i. refusal (version_of x.c) (record { in_login = unlogged x.chosen x.c (unasked x.chosen x.c chosen) cause i; proxy5 = is_proxy5 (direct i); granting_udp = udp-none i }) cause)
+    → (cause : Option Cause) → refusal_of_in (view (socks users pubs) x) x cause ≡ refusal_owed x.c x.chosen None cause
+refused-early users pubs x served unbegan direct None = refl
+refused-early users pubs x served unbegan direct (Some cause) =
+    ap (λ b. if b then [] else refusal (version_of x.c) (record { in_login = is_in_login x.chosen x.c cause; proxy5 = is_proxy5 proxy; granting_udp = udp }) cause) unbegan
+    ∙ (λ i. refusal (version_of x.c) (record { in_login = is_in_login x.chosen x.c cause; proxy5 = is_proxy5 (direct i); granting_udp = udp-none i }) cause)
   where
-    in_login : Bool
-    in_login = is_in_login x.chosen x.c cause
-
     proxy : Option Proxy
     proxy = proxy_of (socks users pubs) x
 
@@ -142,17 +100,17 @@ refused-early users pubs x served chosen unbegan direct (Some cause) =
     udp = is_granting_udp x.decisions (split_of (socks users pubs) x)
 
     udp-none : udp ≡ false
-    udp-none = ap (is_granting_udp x.decisions) (plain-split users pubs x served chosen) ∙ not-udp x.c served x.decisions
+    udp-none = not-udp x.decisions (split_in users x) served
 
 refused-late : (basis : Basis) (x : Record) → relay_began basis x ≡ true → (cause : Option Cause) → refusal_of_in (view basis x) x cause ≡ []
 refused-late basis x began None = refl
 refused-late basis x began (Some cause) =
     ap (λ b. if b then [] else (basis.front).refused x.chosen x.c x.decisions (split_of basis x) (proxy_of basis x) cause) began
 
-owes-early : (o q : List ℕ) → (((o ++ []) ++ []) ++ []) ++ q ≡ o ++ q
+owes-early : (o q : List ℕ) → ((o ++ []) ++ []) ++ q ≡ o ++ q
 owes-early o q = simp append-nil
 
-owes-late : (o s t : List ℕ) → (((o ++ []) ++ (s ++ [])) ++ t) ++ [] ≡ o ++ (s ++ (t ++ []))
+owes-late : (o s t : List ℕ) → ((o ++ (s ++ [])) ++ t) ++ [] ≡ o ++ (s ++ (t ++ []))
 owes-late o s t = simp (append-nil, append_assoc)
 
 -- no proxy stands behind what was decided
@@ -162,16 +120,19 @@ IsDirect users pubs ds = option_and_then (proxy_of_grant (socks users pubs)) (gr
 abbrev OwesClient : List User → List Config → Record → List Decision → Type 0
 OwesClient users pubs r ds = IsDirect users pubs ds → owed_to_client (socks users pubs) (record r { decisions = ds }) ≡ plain_to_client r.c r.t r.chosen (reached_at ds) r.cause
 
-early-owes : (users : List User) (pubs : List Config) (x : Record) → is_served_input x.c ≡ true → HasChosen x.c x.chosen
+pub early-owes : (users : List User) (pubs : List Config) (x : Record) → is_served_split (split_in users x) ≡ true → is_login_failed x.cause ≡ is_failed_split (split_in users x)
     → granted_replies_in (view (socks users pubs) x) x (granted x.decisions) ≡ [] → relay_began (socks users pubs) x ≡ false → proxy_of (socks users pubs) x ≡ None
-    → owed_to_client (socks users pubs) x ≡ chosen_reply x.chosen ++ refusal_owed x.c None x.cause
-early-owes users pubs x served chosen unanswered unbegan direct =
-    ap (λ p. ((chosen_reply x.chosen ++ passed_reply p) ++ g) ++ payload ++ refused) (no-login-passed (socks users pubs) x chosen)
-    ∙ (ap (λ z. ((chosen_reply x.chosen ++ []) ++ z) ++ payload ++ refused) unanswered
-    ∙ (ap (λ b. ((chosen_reply x.chosen ++ []) ++ []) ++ (if b then target_payload (socks users pubs) x else []) ++ refused) unbegan
-    ∙ (ap (λ z. (((chosen_reply x.chosen ++ []) ++ []) ++ []) ++ z) (refused-early users pubs x served chosen unbegan direct x.cause)
-    ∙ owes-early (chosen_reply x.chosen) (refusal_owed x.c None x.cause))))
+    → owed_to_client (socks users pubs) x ≡ opening_owed x.c x.chosen x.cause ++ refusal_owed x.c x.chosen None x.cause
+early-owes users pubs x served failed unanswered unbegan direct =
+    ap (λ p. ((chosen_reply x.chosen ++ passed_reply p) ++ g) ++ payload ++ refused) (record-passed users pubs x failed)
+    ∙ (ap (λ z. (opening ++ z) ++ payload ++ refused) unanswered
+    ∙ (ap (λ b. (opening ++ []) ++ (if b then target_payload (socks users pubs) x else []) ++ refused) unbegan
+    ∙ (ap (λ z. ((opening ++ []) ++ []) ++ z) (refused-early users pubs x served unbegan direct x.cause)
+    ∙ owes-early opening (refusal_owed x.c x.chosen None x.cause))))
   where
+    opening : List ℕ
+    opening = opening_owed x.c x.chosen x.cause
+
     g : List ℕ
     g = granted_replies_in (view (socks users pubs) x) x (granted x.decisions)
 
@@ -185,21 +146,24 @@ abbrev pub passed_grant : ℕ → Facts → Verdict → Option ℕ → Grant
 passed_grant g facts verdict route = record { generation = g; facts = facts; verdict = verdict; route = route; refused = None }
 
 late-owes : (users : List User) (pubs : List Config) (r : Record) (g : ℕ) (rule : Option ℕ) (g' : ℕ) (facts : Facts) (verdict : Verdict) (route : Option ℕ) (to at : Endpoint)
-    → HasChosen r.c r.chosen → facts.command ≡ Command.Connect
+    → is_login_failed r.cause ≡ is_failed_split (split_in users r) → facts.command ≡ Command.Connect
     → OwesClient users pubs r (Decision.Opened g rule None ∷ Decision.Granted g' facts verdict route None ∷ Decision.Reached to (Some at) ∷ [])
-late-owes users pubs r g rule g' facts verdict route to at chosen connects direct =
-    ap (λ p. ((chosen_reply r.chosen ++ passed_reply p) ++ replies) ++ payload ++ refused) (no-login-passed (socks users pubs) x chosen)
+late-owes users pubs r g rule g' facts verdict route to at failed connects direct =
+    ap (λ p. ((chosen_reply r.chosen ++ passed_reply p) ++ replies) ++ payload ++ refused) (record-passed users pubs x failed)
     ∙ (ap (λ (p : Option Proxy).
-    ((chosen_reply r.chosen ++ []) ++ (by_way (way (Some at) (outcome_with r.t (passed_grant g' facts verdict route) p)) ++ []))
+    (opening ++ (by_way (way (Some at) (outcome_with r.t (passed_grant g' facts verdict route) p)) ++ []))
     ++ (if began_by facts.command (way (Some at) (outcome_with r.t (passed_grant g' facts verdict route) p)) None then drop (replies_length (outcome_with r.t (passed_grant g' facts verdict route) p)) r.t else [])
     ++ refused) direct
-    ∙ (ap (λ (k : Command). ((chosen_reply r.chosen ++ []) ++ (success (version_of r.c) k at ++ [])) ++ (if began_by k (Some at) None then drop 0 r.t else []) ++ refused) connects
-    ∙ (ap (λ z. (((chosen_reply r.chosen ++ []) ++ (success (version_of r.c) Command.Connect at ++ [])) ++ drop 0 r.t) ++ z)
+    ∙ (ap (λ (k : Command). (opening ++ (success (version_of r.c) k at ++ [])) ++ (if began_by k (Some at) None then drop 0 r.t else []) ++ refused) connects
+    ∙ (ap (λ z. ((opening ++ (success (version_of r.c) Command.Connect at ++ [])) ++ drop 0 r.t) ++ z)
     (refused-late (socks users pubs) x began r.cause)
-    ∙ owes-late (chosen_reply r.chosen) (success (version_of r.c) Command.Connect at) r.t)))
+    ∙ owes-late opening (success (version_of r.c) Command.Connect at) r.t)))
   where
     x : Record
     x = record r { decisions = Decision.Opened g rule None ∷ Decision.Granted g' facts verdict route None ∷ Decision.Reached to (Some at) ∷ [] }
+
+    opening : List ℕ
+    opening = opening_owed r.c r.chosen r.cause
 
     replies : List ℕ
     replies = granted_replies_in (view (socks users pubs) x) x (granted x.decisions)
@@ -219,63 +183,36 @@ late-owes users pubs r g rule g' facts verdict route to at chosen connects direc
         ∙ ap (λ (k : Command). began_by k (Some at) None) connects
 
 reached-owes : (users : List User) (pubs : List Config) (r : Record) (g : ℕ) (rule : Option ℕ) (g' : ℕ) (facts : Facts) (verdict : Verdict) (route : Option ℕ) (to : Endpoint) (at : Option Endpoint)
-    → is_served_input r.c ≡ true → HasChosen r.c r.chosen → facts.command ≡ Command.Connect
+    → is_served_split (split_in users r) ≡ true → is_login_failed r.cause ≡ is_failed_split (split_in users r) → facts.command ≡ Command.Connect
     → OwesClient users pubs r (Decision.Opened g rule None ∷ Decision.Granted g' facts verdict route None ∷ Decision.Reached to at ∷ [])
-reached-owes users pubs r g rule g' facts verdict route to None served chosen connects direct =
-    early-owes users pubs (record r { decisions = Decision.Opened g rule None ∷ Decision.Granted g' facts verdict route None ∷ Decision.Reached to None ∷ [] }) served chosen
+reached-owes users pubs r g rule g' facts verdict route to None served failed connects direct =
+    early-owes users pubs (record r { decisions = Decision.Opened g rule None ∷ Decision.Granted g' facts verdict route None ∷ Decision.Reached to None ∷ [] }) served failed
     refl (ap (λ (k : Command). began_by k None None) connects) direct
-reached-owes users pubs r g rule g' facts verdict route to (Some at) served chosen connects direct = late-owes users pubs r g rule g' facts verdict route to at chosen connects direct
+reached-owes users pubs r g rule g' facts verdict route to (Some at) served failed connects direct = late-owes users pubs r g rule g' facts verdict route to at failed connects direct
 
-pub plain-owes-client : (users : List User) (pubs : List Config) (r : Record) → IsPlainRecord r → proxy_of (socks users pubs) r ≡ None → owed_to_client (socks users pubs) r ≡ owed_c r
-plain-owes-client users pubs r h direct = decided-forms r (OwesClient users pubs r) (record {
-  nothing = λ fresh' direct'. early-owes users pubs (record r { decisions = [] }) h.served h.chosen' refl refl refl;
-  opened' = λ g rule d direct'. early-owes users pubs (record r { decisions = Decision.Opened g rule None ∷ [] }) h.served h.chosen' refl refl refl;
+pub plain-owes-client : (users : List User) (pubs : List Config) (r : Record) → IsPlainRecord users r → proxy_of (socks users pubs) r ≡ None → owed_to_client (socks users pubs) r ≡ owed_c r
+plain-owes-client users pubs r h direct = decided-forms users r (OwesClient users pubs r) (record {
+  nothing = λ fresh' direct'. early-owes users pubs (record r { decisions = [] }) h.served h.failed refl refl refl;
+  opened' = λ g rule d direct'. early-owes users pubs (record r { decisions = Decision.Opened g rule None ∷ [] }) h.served h.failed refl refl refl;
   granted' = λ g rule g' facts verdict route refused d direct'.
-      early-owes users pubs (record r { decisions = Decision.Opened g rule None ∷ Decision.Granted g' facts verdict route refused ∷ [] }) h.served h.chosen'
+      early-owes users pubs (record r { decisions = Decision.Opened g rule None ∷ Decision.Granted g' facts verdict route refused ∷ [] }) h.served h.failed
       refl (ap (λ (k : Command). began_by k None None) d.command) direct';
-  reached' = λ g rule g' facts verdict route to at d direct'. reached-owes users pubs r g rule g' facts verdict route to at h.served h.chosen' d.command direct';
+  reached' = λ g rule g' facts verdict route to at d direct'. reached-owes users pubs r g rule g' facts verdict route to at h.served h.failed d.command direct';
 }) r.decisions h.decided direct
 
 -- ---- what is owed to the target
-
--- a whole input of SOCKS 5 is a CONNECT
-pub whole-connect : (c : List ℕ) → is_served_input c ≡ true → is_whole_input c ≡ true → version_of c ≡ Some Version.V5 → (to : Endpoint) × IsConnect c to
-whole-connect c served = served-forms (λ c. is_whole_input c ≡ true → version_of c ≡ Some Version.V5 → (to : Endpoint) × IsConnect c to) (record {
-  none = λ h v. absurd (cc);
-  other = λ b bs e4 e5 h v. absurd (no-version b e4 e5 v);
-  one = λ h v. absurd (cc);
-  two = λ h v. absurd (cc);
-  three = λ h v. absurd (cc);
-  four = λ h v. absurd (cc);
-  five = λ h v. absurd (cc);
-  six = λ r h v. absurd (cc);
-  seven = λ r h v. absurd (cc);
-  eight = λ r a h v. absurd (cc);
-  nine = λ r a b h v. absurd (cc);
-  ten = λ r a b c h v. absurd (cc);
-  eleven = λ r a b c d h v. absurd (cc);
-  twelve = λ r a b c d p h v. absurd (cc);
-  whole = λ r a b c d p q bs h v. (address_at a b c d p q, record { reserved = r; a = a; b = b; c = c; d = d; p = p; q = q; payload = bs; bytes' = refl; to' = refl });
-}) c served
-  where
-    no-version : (b : ℕ) → b == 4 ≡ false → b == 5 ≡ false → (if b == 4 then Some Version.V4 else (if b == 5 then Some Version.V5 else None)) ≡ Some Version.V5 → ⊥
-    no-version b e4 e5 v = let k : (if b == 4 then Some Version.V4 else (if b == 5 then Some Version.V5 else None)) ≡ None = rw (e4, e5) refl in cc
-
-pub connect-length : (users : List User) (pubs : List Config) (r : Record) (to : Endpoint) → is_served_input r.c ≡ true → HasChosen r.c r.chosen → IsConnect r.c to
-    → length_of (split_of (socks users pubs) r) ≡ 13
-connect-length users pubs r to served chosen h = ap length_of (plain-split users pubs r served chosen ∙ connect-split r.c to h)
 
 pub and-false : (b : Bool) → b && false ≡ false
 and-false true = refl
 and-false false = refl
 
 abbrev OwesTarget : List User → List Config → Record → List Decision → Type 0
-OwesTarget users pubs r ds = IsDirect users pubs ds → owed_to_target (socks users pubs) (record r { decisions = ds }) ≡ plain_to_target r.c (reached_at ds)
+OwesTarget users pubs r ds = IsDirect users pubs ds → owed_to_target (socks users pubs) (record r { decisions = ds }) ≡ plain_to_target (prelude_of r) r.c (reached_at ds)
 
 reached-owes-target : (users : List User) (pubs : List Config) (r : Record) (g : ℕ) (rule : Option ℕ) (g' : ℕ) (facts : Facts) (verdict : Verdict) (route : Option ℕ) (to : Endpoint) (at : Option Endpoint)
-    → is_served_input r.c ≡ true → HasChosen r.c r.chosen → Dialled r facts at
+    → Dialled users r facts at
     → OwesTarget users pubs r (Decision.Opened g rule None ∷ Decision.Granted g' facts verdict route None ∷ Decision.Reached to at ∷ [])
-reached-owes-target users pubs r g rule g' facts verdict route to None served chosen d direct =
+reached-owes-target users pubs r g rule g' facts verdict route to None d direct =
     ap (λ (k : Command). elim (target_by None None k) [
       | true ↦ said_to_proxy (socks users pubs) x ++ (if relay_began (socks users pubs) x then client_payload (socks users pubs) x else [])
       | false ↦ []
@@ -283,16 +220,16 @@ reached-owes-target users pubs r g rule g' facts verdict route to None served ch
   where
     x : Record
     x = record r { decisions = Decision.Opened g rule None ∷ Decision.Granted g' facts verdict route None ∷ Decision.Reached to None ∷ [] }
-reached-owes-target users pubs r g rule g' facts verdict route to (Some at) served chosen d direct =
+reached-owes-target users pubs r g rule g' facts verdict route to (Some at) d direct =
     ap (λ (p : Option Proxy). due p facts.command (length_of (split_of (socks users pubs) x))) direct
     ∙ (ap (λ (k : Command). due None k (length_of (split_of (socks users pubs) x))) d.command
-    ∙ ap (λ n. due None Command.Connect n) (connect-length users pubs x request.0 served chosen request.1))
+    ∙ ap (λ n. due None Command.Connect n) (length-is users pubs x asked))
   where
     x : Record
     x = record r { decisions = Decision.Opened g rule None ∷ Decision.Granted g' facts verdict route None ∷ Decision.Reached to (Some at) ∷ [] }
 
-    request : (to : Endpoint) × IsConnect r.c to
-    request = whole-connect r.c served d.whole d.version
+    asked : HasAsked users x
+    asked = record { request = d.asked.request; len = d.asked.len; whole = d.asked.whole }
 
     due : Option Proxy → Command → ℕ → List ℕ
     due p k n = elim (target_by (Some at) None k) [
@@ -300,8 +237,8 @@ reached-owes-target users pubs r g rule g' facts verdict route to (Some at) serv
       | false ↦ []
     ]
 
-pub plain-owes-target : (users : List User) (pubs : List Config) (r : Record) → IsPlainRecord r → proxy_of (socks users pubs) r ≡ None → owed_to_target (socks users pubs) r ≡ owed_t r
-plain-owes-target users pubs r h direct = decided-forms r (OwesTarget users pubs r) (record {
+pub plain-owes-target : (users : List User) (pubs : List Config) (r : Record) → IsPlainRecord users r → proxy_of (socks users pubs) r ≡ None → owed_to_target (socks users pubs) r ≡ owed_t r
+plain-owes-target users pubs r h direct = decided-forms users r (OwesTarget users pubs r) (record {
   nothing = λ fresh' direct'. refl;
   opened' = λ g rule d direct'. refl;
   granted' = λ g rule g' facts verdict route refused d direct'.
@@ -314,7 +251,7 @@ plain-owes-target users pubs r h direct = decided-forms r (OwesTarget users pubs
         | true ↦ said_to_proxy (socks users pubs) x ++ (if relay_began (socks users pubs) x then client_payload (socks users pubs) x else [])
         | false ↦ []
       ]) (and-false (is_none refused));
-  reached' = λ g rule g' facts verdict route to at d direct'. reached-owes-target users pubs r g rule g' facts verdict route to at h.served h.chosen' d direct';
+  reached' = λ g rule g' facts verdict route to at d direct'. reached-owes-target users pubs r g rule g' facts verdict route to at d direct';
 }) r.decisions h.decided direct
 
 -- ---- the phase
@@ -330,49 +267,77 @@ closing-phase basis x cause undone fixed =
     ∙ ap (λ k. if is_some k then Phase.Closing else phase_opened_in (view basis x) x (opened x.decisions)) fixed
 
 pub talk-phase : (users : List User) (pubs : List Config) (r : Record) (g : ℕ) (rule : Option ℕ)
-    → r.done ≡ false → r.cause ≡ None → is_served_input r.c ≡ true → HasChosen r.c r.chosen → is_whole_input r.c ≡ false
+    → r.done ≡ false → r.cause ≡ None → split_in users r ≡ Split.More
     → phase (socks users pubs) (record r { decisions = Decision.Opened g rule None ∷ [] }) ≡ Phase.Talk
-talk-phase users pubs r g rule undone uncaused served chosen unwhole =
-    going-phase (socks users pubs) x undone uncaused
-    ∙ ap (phase_split_in (view (socks users pubs) x) x) (plain-split users pubs x served chosen ∙ more-split r.c served unwhole)
+talk-phase users pubs r g rule undone uncaused more =
+    going-phase (socks users pubs) x undone uncaused ∙ ap (phase_split_in (view (socks users pubs) x) x) more
   where
     x : Record
     x = record r { decisions = Decision.Opened g rule None ∷ [] }
 
-pub judging-phase : (users : List User) (pubs : List Config) (r : Record) (g : ℕ) (rule : Option ℕ) (to : Endpoint)
-    → r.done ≡ false → r.cause ≡ None → is_served_input r.c ≡ true → HasChosen r.c r.chosen → IsConnect r.c to
-    → phase (socks users pubs) (record r { decisions = Decision.Opened g rule None ∷ [] }) ≡ Phase.Judging (request_to to)
-judging-phase users pubs r g rule to undone uncaused served chosen connects =
+-- a request that is served has an address
+pub served-address : (k : Command) (host : Host) → is_connect_command k && is_address host ≡ true → (a : Addr) × (host ≡ Host.Addr a)
+served-address k (Host.Addr a) h = (a, refl)
+served-address Command.Connect (Host.Name name) h = absurd (cc)
+served-address Command.Bind (Host.Name name) h = absurd (cc)
+served-address Command.UdpAssociate (Host.Name name) h = absurd (cc)
+served-address Command.BindReply (Host.Name name) h = absurd (cc)
+served-address Command.UdpReply (Host.Name name) h = absurd (cc)
+
+pub served-connect : (k : Command) (host : Host) → is_connect_command k && is_address host ≡ true → k ≡ Command.Connect
+served-connect Command.Connect host h = refl
+served-connect Command.Bind host h = absurd (cc)
+served-connect Command.UdpAssociate host h = absurd (cc)
+served-connect Command.BindReply host h = absurd (cc)
+served-connect Command.UdpReply host h = absurd (cc)
+
+pub address-of : (s : Split) (q : Request) (n : ℕ) → is_served_split s ≡ true → s ≡ Split.Whole q n → (a : Addr) × (q.host ≡ Host.Addr a)
+address-of s q n served whole = served-address q.command q.host (sym (ap is_served_split whole) ∙ served)
+
+abbrev at_address : Request → Host → Request
+at_address q host = record q { host = host }
+
+pub judging-phase : (users : List User) (pubs : List Config) (r : Record) (g : ℕ) (rule : Option ℕ) (q : Request) (n : ℕ)
+    → r.done ≡ false → r.cause ≡ None → is_served_split (split_in users r) ≡ true → split_in users r ≡ Split.Whole q n
+    → phase (socks users pubs) (record r { decisions = Decision.Opened g rule None ∷ [] }) ≡ Phase.Judging q
+judging-phase users pubs r g rule q n undone uncaused served whole =
     going-phase (socks users pubs) x undone uncaused
-    ∙ ap (phase_split_in (view (socks users pubs) x) x) (plain-split users pubs x served chosen ∙ connect-split r.c to connects)
+    ∙ (ap (phase_split_in (view (socks users pubs) x) x) whole
+    ∙ (ap (λ (h : Host). phase_split_in (view (socks users pubs) x) x (Split.Whole (at_address q h) n)) address.1
+    ∙ ap (λ (h : Host). Phase.Judging (at_address q h)) (sym address.1)))
   where
     x : Record
     x = record r { decisions = Decision.Opened g rule None ∷ [] }
+
+    address : (a : Addr) × (q.host ≡ Host.Addr a)
+    address = address-of (split_in users r) q n served whole
 
 pub reach-phase : (users : List User) (pubs : List Config) (r : Record) (g : ℕ) (rule : Option ℕ) (g' : ℕ) (facts : Facts) (verdict : Verdict) (route : Option ℕ)
-    → r.done ≡ false → r.cause ≡ None → is_served_input r.c ≡ true → HasChosen r.c r.chosen → is_whole_input r.c ≡ true → version_of r.c ≡ Some Version.V5
+    → r.done ≡ false → r.cause ≡ None → is_served_split (split_in users r) ≡ true → HasAsked users r
     → phase (socks users pubs) (record r { decisions = Decision.Opened g rule None ∷ Decision.Granted g' facts verdict route None ∷ [] }) ≡ Phase.Reach (passed_grant g' facts verdict route)
-reach-phase users pubs r g rule g' facts verdict route undone uncaused served chosen whole version =
+reach-phase users pubs r g rule g' facts verdict route undone uncaused served asked =
     going-phase (socks users pubs) x undone uncaused
-    ∙ ap (phase_split_in (view (socks users pubs) x) x) (plain-split users pubs x served chosen ∙ connect-split r.c request.0 request.1)
+    ∙ (ap (phase_split_in (view (socks users pubs) x) x) asked.whole
+    ∙ ap (λ (h : Host). phase_split_in (view (socks users pubs) x) x (Split.Whole (at_address asked.request h) asked.len)) address.1)
   where
     x : Record
     x = record r { decisions = Decision.Opened g rule None ∷ Decision.Granted g' facts verdict route None ∷ [] }
 
-    request : (to : Endpoint) × IsConnect r.c to
-    request = whole-connect r.c served whole version
+    address : (a : Addr) × (asked.request.host ≡ Host.Addr a)
+    address = address-of (split_in users r) asked.request asked.len served asked.whole
 
 pub relay-phase : (users : List User) (pubs : List Config) (r : Record) (g : ℕ) (rule : Option ℕ) (g' : ℕ) (facts : Facts) (verdict : Verdict) (route : Option ℕ) (to at : Endpoint)
-    → r.done ≡ false → r.cause ≡ None → is_served_input r.c ≡ true → HasChosen r.c r.chosen → Dialled r facts (Some at) → proxy_in route (numbered pubs g') ≡ None
+    → r.done ≡ false → r.cause ≡ None → is_served_split (split_in users r) ≡ true → Dialled users r facts (Some at) → proxy_in route (numbered pubs g') ≡ None
     → phase (socks users pubs) (record r { decisions = Decision.Opened g rule None ∷ Decision.Granted g' facts verdict route None ∷ Decision.Reached to (Some at) ∷ [] }) ≡ Phase.Relay
-relay-phase users pubs r g rule g' facts verdict route to at undone uncaused served chosen d direct =
+relay-phase users pubs r g rule g' facts verdict route to at undone uncaused served d direct =
     going-phase (socks users pubs) x undone uncaused
-    ∙ (ap (phase_split_in (view (socks users pubs) x) x) (plain-split users pubs x served chosen ∙ connect-split r.c request.0 request.1)
+    ∙ (ap (phase_split_in (view (socks users pubs) x) x) d.asked.whole
+    ∙ (ap (λ (h : Host). phase_split_in (view (socks users pubs) x) x (Split.Whole (at_address d.asked.request h) d.asked.len)) address.1
     ∙ (ap (phase_by_command (view (socks users pubs) x) x (passed_grant g' facts verdict route)) d.command
-    ∙ ap (λ (p : Option Proxy). phase_connect (outcome_with r.t (passed_grant g' facts verdict route) p)) direct))
+    ∙ ap (λ (p : Option Proxy). phase_connect (outcome_with r.t (passed_grant g' facts verdict route) p)) direct)))
   where
     x : Record
     x = record r { decisions = Decision.Opened g rule None ∷ Decision.Granted g' facts verdict route None ∷ Decision.Reached to (Some at) ∷ [] }
 
-    request : (to : Endpoint) × IsConnect r.c to
-    request = whole-connect r.c served d.whole d.version
+    address : (a : Addr) × (d.asked.request.host ≡ Host.Addr a)
+    address = address-of (split_in users r) d.asked.request d.asked.len served d.asked.whole

@@ -18,19 +18,19 @@ use Rattle.socks_machine.specs.declared.world.Object.{Object}
 use Rattle.socks_machine.specs.Basis.{Basis}
 use Rattle.socks_machine.specs.Decisions.{granted, reached_at}
 use Rattle.socks_machine.specs.Settle.{first_cause}
-use Rattle.socks_machine.specs.Socks.{socks, chosen_reply}
+use Rattle.socks_machine.specs.Socks.{socks}
 use Rattle.assoc_core.specs.declared.assoc.Assoc.{Assoc}
 use Rattle.assoc_core.specs.declared.assoc.Next.{Next}
 use Rattle.assoc_core.specs.declared.send.Sent.{Sent}
-use Rattle.assoc_core.specs.Plain.{owed_c, plain_to_target, success_reply, refusal_owed}
+use Rattle.assoc_core.specs.Plain.{owed_c, prelude_of}
 use Rattle.assoc_core.specs.Reaching.{HasDialled, HasGreeted, IsNewLink, SameDesk, at_of, cause_of}
 use Rattle.assoc_core.specs.Sending.{Sends, SendEnds}
 use Rattle.assoc_core.specs.Stands.{Stands, Holds, HoldsTarget, EndsBehind, GivesFirst}
 use Rattle.assoc_core.specs.Turns.{Turns, SameOutside, SameTarget, IsUnfailing, IsFull, IsThereAnd, context}
 use Rattle.assoc_core.proofs.Answering.{all-owed, with_link}
 use Rattle.assoc_core.proofs.GrantTurns.{last-set, GrantEnds, fault_of, with_failure}
-use Rattle.assoc_core.proofs.Reaching.{Dialling, behind, before, payload-none, with_object}
-use Rattle.assoc_core.proofs.ReachTurns.{judged-in, Reaches, FailedWrite, dialling_of, before-is, behind-is, turns-reached, due_c, first-due, told_taken, holds-new, target-none}
+use Rattle.assoc_core.proofs.Reaching.{Dialling, behind, before, due_t, with_object}
+use Rattle.assoc_core.proofs.ReachTurns.{judged-in, Reaches, FailedWrite, dialling_of, before-is, behind-is, turns-reached, due_c, due-as, first-due, told_taken, holds-new, target-none}
 use Rattle.assoc_core.proofs.Sendings.{more-nil}
 use Rattle.assoc_core.proofs.StandsLaws.{same-target}
 use Rattle.assoc_core.proofs.TalkTurns.{with_state}
@@ -50,10 +50,6 @@ turns-dialled told counts users pubs generation config most h marks net net' now
 
     is : a.state ≡ before d
     is = before-is told users pubs generation config most h marks net net' now a b o k
-
--- what is owed to the client behind the dial
-owed-behind : (d : Dialling) (o : DialOutcome) → owed_c (behind d (at_of o) d.sent [] (cause_of o)) ≡ due_c d o
-owed-behind d o = ap (λ w. chosen_reply d.chosen ++ (success_reply d.c (at_of o) ++ (w ++ refusal_owed d.c (at_of o) (cause_of o)))) (payload-none (at_of o))
 
 -- ---- the client is refused
 
@@ -94,8 +90,8 @@ refuses-turn {L = L} told counts users pubs generation config most h marks net n
       state' = is ∙ (λ i. behind d (at_of o) (d.sent ++ sends'.bytes) (sym none-t i) (with_object (fault_of failed) (cause_of o)));
       writes = record {
         sent_c' = refl;
-        all_c = all-owed d.sent sends'.bytes sends'.rest (due_c d o) (first-due d _) (sends'.pending' ∙ ap (drop (length d.sent)) (owed-behind d o));
-        all_t = ap (λ w. w ++ []) none-t ∙ sym (ap (plain_to_target d.c) unreached);
+        all_c = all-owed d.sent sends'.bytes sends'.rest (due_c d o) (first-due d _) (sends'.pending' ∙ ap (drop (length d.sent)) (due-as d o None d.sent []));
+        all_t = ap (λ w. w ++ []) none-t ∙ sym (ap (due_t d) unreached);
         failing = failed-as d o sends'.rest [] failed (λ e. (ends.failed' e).0);
       };
       unsent_t = λ e. none-t;
@@ -157,7 +153,7 @@ refuses-turn {L = L} told counts users pubs generation config most h marks net n
 pub record Greets {L : Type 0} (told : L → Told) (counts : L → Counts) (b z : Assoc L) (new link : L) (y_c rest_c rest_t : List ℕ) (full_c full_t : Bool) (fault : Option Object) (unwritten : Bool) : Type 0 where
   pub pending' : y_c ++ rest_c ≡ drop (length (b.state).sent_c) (owed_c b.state)
   pub state' : z.state ≡ (let r = b.state in record r { sent_c = r.sent_c ++ y_c; sent_t = (z.state).sent_t; cause = with_object fault r.cause })
-  pub all_t : (z.state).sent_t ++ rest_t ≡ drop 13 (b.state).c
+  pub all_t : (z.state).sent_t ++ rest_t ≡ drop (prelude_of b.state) (b.state).c
   pub failing : (d : Dialling) (local : Endpoint) → FailedWrite d (DialOutcome.CameUp local) rest_c rest_t fault unwritten
   pub told' : told z.client ≡ told_taken (told b.client) y_c
   pub target' : z.target ≡ Some link
@@ -179,8 +175,8 @@ greets-turn {L = L} told counts users pubs generation config most h marks net ne
       state' = is;
       writes = record {
         sent_c' = refl;
-        all_c = all-owed d.sent y_c rest_c (due_c d o) (first-due d _) (w.pending' ∙ (ap (λ (r : Record). drop (length r.sent_c) (owed_c r)) b-is ∙ ap (drop (length d.sent)) (owed-behind d o)));
-        all_t = w.all_t ∙ ap (λ (r : Record). drop 13 r.c) b-is;
+        all_c = all-owed d.sent y_c rest_c (due_c d o) (first-due d _) (w.pending' ∙ (ap (λ (r : Record). drop (length r.sent_c) (owed_c r)) b-is ∙ ap (drop (length d.sent)) (due-as d o None d.sent [])));
+        all_t = w.all_t ∙ ap (λ (r : Record). drop (prelude_of r) r.c) b-is;
         failing = w.failing d local;
       };
       unsent_t = λ e. absurd (some-clash local e);
@@ -226,12 +222,12 @@ pub greets-none : {L : Type 0} (told : L → Told) (counts : L → Counts) (b : 
     → s ≡ (let r = b.state in record r { sent_c = s.sent_c })
     → (b.state).sent_t ≡ [] → (sends : Sends (told b.client) (told client) (counts b.client) (counts client) (b.state).sent_c s.sent_c (drop (length (b.state).sent_c) (owed_c b.state)) Sent.Failed)
     → last ≡ first_cause (Some Cause.ClientFault) s.cause
-    → Greets told counts b (record { state = record s { cause = last }; client = client; target = Some new }) new new sends.bytes sends.rest (drop 13 (b.state).c) false false (Some Object.Client) true
+    → Greets told counts b (record { state = record s { cause = last }; client = client; target = Some new }) new new sends.bytes sends.rest (drop (prelude_of b.state) (b.state).c) false false (Some Object.Client) true
 greets-none {L = L} told counts b new client s last state' unsent sends last' = record {
   pending' = sends.pending';
   state' = (λ i. record s { cause = last' i }) ∙ (λ i. let r : Record = state' i in record r { cause = first_cause (Some Cause.ClientFault) r.cause })
       ∙ (λ i. let r : Record = b.state in record r { sent_c = sends.after' i; sent_t = same i; cause = first_cause (Some Cause.ClientFault) r.cause });
-  all_t = ap (λ (w : List ℕ). w ++ drop 13 (b.state).c) unsent';
+  all_t = ap (λ (w : List ℕ). w ++ drop (prelude_of b.state) (b.state).c) unsent';
   failing = λ d local. (refl, (sends.ends).0);
   told' = sends.told';
   target' = refl;
@@ -301,7 +297,7 @@ pub sends-payload : {L : Type 0} (told : L → Told) (counts : L → Counts) (us
     (net net' : NetTold) (now : ℕ) (a b z : Assoc L) (local : Endpoint) (new link : L) (s : Record) (last : Option Cause) (full full_t failed : Bool) (outcome : Sent)
     → HasDialled told (socks users pubs) net net' now a b (DialOutcome.CameUp local) → IsNewLink (told new) net → HasGreeted told counts b z full
     → s ≡ (let r = z.state in record r { sent_t = s.sent_t })
-    → Sends (told new) (told link) (counts new) (counts link) (z.state).sent_t s.sent_t (drop (length (z.state).sent_t) (drop 13 (z.state).c)) outcome
+    → Sends (told new) (told link) (counts new) (counts link) (z.state).sent_t s.sent_t (drop (length (z.state).sent_t) (drop (prelude_of z.state) (z.state).c)) outcome
     → ((rest : List ℕ) → SendEnds (told link) (counts new) (counts link) rest outcome → PayloadEnds (told link) rest full_t failed)
     → last ≡ with_target_failure failed s.cause
     → Turns told counts (SameDesk h marks) (context users pubs generation config most h marks) now net net' a (Next.Again (record { state = record s { cause = last }; client = z.client; target = Some link }))
@@ -335,9 +331,9 @@ sends-payload {L = L} told counts users pubs generation config most h marks net 
     s-is : s ≡ (let r = b.state in record r { sent_c = r.sent_c ++ g.bytes; sent_t = s.sent_t })
     s-is = state' ∙ (λ i. let r : Record = z-is i in record r { sent_t = s.sent_t })
 
-    sends' : Sends (told new) (told link) (counts new) (counts link) [] s.sent_t (drop 13 (b.state).c) outcome
-    sends' = subst (λ (c : List ℕ). Sends (told new) (told link) (counts new) (counts link) [] s.sent_t (drop 13 c) outcome) (ap (λ (r : Record). r.c) z-is)
-        (subst (λ (w : List ℕ). Sends (told new) (told link) (counts new) (counts link) w s.sent_t (drop (length w) (drop 13 (z.state).c)) outcome) unsent sends)
+    sends' : Sends (told new) (told link) (counts new) (counts link) [] s.sent_t (drop (prelude_of b.state) (b.state).c) outcome
+    sends' = subst (λ (r : Record). Sends (told new) (told link) (counts new) (counts link) [] s.sent_t (drop (prelude_of r) r.c) outcome) z-is
+        (subst (λ (w : List ℕ). Sends (told new) (told link) (counts new) (counts link) w s.sent_t (drop (length w) (drop (prelude_of z.state) (z.state).c)) outcome) unsent sends)
 
     ends : PayloadEnds (told link) sends'.rest full_t failed
     ends = by sends'.rest sends'.ends

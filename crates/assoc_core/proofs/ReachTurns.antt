@@ -13,6 +13,7 @@ use Rattle.rule_list.specs.declared.verdict.Verdict.{Verdict}
 use Rattle.socks_machine.specs.declared.cause.Cause.{Cause}
 use Rattle.socks_machine.specs.declared.cause.StopBy.{StopBy}
 use Rattle.socks_machine.specs.declared.lines.Line.{Line}
+use Rattle.socks_machine.specs.declared.record.Chosen.{Chosen}
 use Rattle.socks_machine.specs.declared.record.Decision.{Decision}
 use Rattle.socks_machine.specs.declared.record.Record.{Record}
 use Rattle.socks_machine.specs.declared.world.Object.{Object}
@@ -21,35 +22,35 @@ use Rattle.socks_machine.specs.Decisions.{Grant, reached_at}
 use Rattle.socks_machine.specs.Owed.{owed_to_client, owed_to_target}
 use Rattle.socks_machine.specs.Phase.{Phase}
 use Rattle.socks_machine.specs.Settle.{is_nothing}
-use Rattle.socks_machine.specs.Socks.{socks, chosen_reply}
+use Rattle.socks_machine.specs.Socks.{socks}
 use Rattle.socks_machine.specs.Taking.{reads_client, reads_target}
-use Rattle.socks_machine.specs.Turn.{has_pending, fault_fits, with_fault}
+use Rattle.socks_machine.specs.Turn.{has_pending, fault_cause, fault_fits, with_fault}
 use Rattle.assoc_core.specs.declared.assoc.Assoc.{Assoc}
 use Rattle.assoc_core.specs.declared.assoc.Next.{Next}
-use Rattle.assoc_core.specs.Plain.{IsPlainRecord, HasDecided, Judged, owed_c, success_reply, refusal_owed, plain_to_target, payload_to_client}
+use Rattle.assoc_core.specs.Plain.{IsPlainRecord, HasAsked, HasDecided, Judged, is_login_failed, owed_c, opening_owed, success_reply, refusal_owed, payload_to_client}
 use Rattle.assoc_core.specs.Reaching.{HasDialled, SameDesk, at_of, cause_of}
 use Rattle.assoc_core.specs.Stands.{GoesDirect, Stands, Holds, HoldsTarget, EndsBehind, GivesFirst}
 use Rattle.assoc_core.specs.Turns.{Turns, StopsReading, SameOutside, SameTarget, DialsAre, PlanStays, IsOuterOf, IsUnfailing, IsFull, IsThereAnd, links, outer_of}
 use Rattle.assoc_core.proofs.Answering.{still-left}
 use Rattle.assoc_core.proofs.PlainRecords.{plain-owes-client, plain-owes-target}
-use Rattle.assoc_core.proofs.Reaching.{Dialling, reached_behind, basis_of, context_of, before, behind, grant_of, phase-before, plain-behind, payload-none, reach_acts, with_object, ReachSends, reaches-on}
+use Rattle.assoc_core.proofs.Reaching.{Dialling, reached_behind, basis_of, context_of, before, behind, grant_of, phase-before, same-opening, due_t, plain-behind, payload-none, reach_acts, with_object, ReachSends, reaches-on}
 use Rattle.assoc_core.proofs.TalkTurns.{with_state}
 
 -- ---- what is owed
 
 abbrev pub due_c : Dialling → DialOutcome → List ℕ
-due_c d o = chosen_reply d.chosen ++ (success_reply d.c (at_of o) ++ ([] ++ refusal_owed d.c (at_of o) (cause_of o)))
+due_c d o = opening_owed d.c d.chosen None ++ (success_reply d.c (at_of o) ++ ([] ++ refusal_owed d.c d.chosen (at_of o) (cause_of o)))
 
-fault-adds : (c : List ℕ) (o : DialOutcome) (fault : Option Object) → refusal_owed c (at_of o) (with_object fault (cause_of o)) ≡ refusal_owed c (at_of o) (cause_of o)
-fault-adds c (DialOutcome.CameUp local) fault = refl
-fault-adds c DialOutcome.WasRefused None = refl
-fault-adds c DialOutcome.WasRefused (Some x) = refl
-fault-adds c DialOutcome.NoHost None = refl
-fault-adds c DialOutcome.NoHost (Some x) = refl
-fault-adds c DialOutcome.NoNet None = refl
-fault-adds c DialOutcome.NoNet (Some x) = refl
-fault-adds c DialOutcome.Fault None = refl
-fault-adds c DialOutcome.Fault (Some x) = refl
+fault-adds : (c : List ℕ) (chosen : Option Chosen) (o : DialOutcome) (fault : Option Object) → refusal_owed c chosen (at_of o) (with_object fault (cause_of o)) ≡ refusal_owed c chosen (at_of o) (cause_of o)
+fault-adds c chosen (DialOutcome.CameUp local) fault = refl
+fault-adds c chosen DialOutcome.WasRefused None = refl
+fault-adds c chosen DialOutcome.WasRefused (Some x) = refl
+fault-adds c chosen DialOutcome.NoHost None = refl
+fault-adds c chosen DialOutcome.NoHost (Some x) = refl
+fault-adds c chosen DialOutcome.NoNet None = refl
+fault-adds c chosen DialOutcome.NoNet (Some x) = refl
+fault-adds c chosen DialOutcome.Fault None = refl
+fault-adds c chosen DialOutcome.Fault (Some x) = refl
 
 fails-caused : (o : DialOutcome) (fault : Option Object) → at_of o ≡ None → is_some (with_object fault (cause_of o)) ≡ true
 fails-caused (DialOutcome.CameUp local) fault e = absurd (cc)
@@ -63,21 +64,47 @@ fails-caused DialOutcome.Fault None e = refl
 fails-caused DialOutcome.Fault (Some x) e = refl
 
 due-with : (d : Dialling) (o : DialOutcome) (fault : Option Object)
-    → chosen_reply d.chosen ++ (success_reply d.c (at_of o) ++ ([] ++ refusal_owed d.c (at_of o) (with_object fault (cause_of o)))) ≡ due_c d o
-due-with d o fault = ap (λ z. chosen_reply d.chosen ++ (success_reply d.c (at_of o) ++ ([] ++ z))) (fault-adds d.c o fault)
+    → opening_owed d.c d.chosen None ++ (success_reply d.c (at_of o) ++ ([] ++ refusal_owed d.c d.chosen (at_of o) (with_object fault (cause_of o)))) ≡ due_c d o
+due-with d o fault = ap (λ z. opening_owed d.c d.chosen None ++ (success_reply d.c (at_of o) ++ ([] ++ z))) (fault-adds d.c d.chosen o fault)
 
-pub first-due : (d : Dialling) (z : List ℕ) → IsPrefix d.sent (chosen_reply d.chosen ++ z)
-first-due d z = ((d.sent').0 ++ z, sym (append_assoc d.sent (d.sent').0 z) ∙ ap (λ s. s ++ z) ((d.sent').1 ∙ append-nil (chosen_reply d.chosen)))
+-- neither a dial nor a failed call is a failed login
+fault-unlogged : (x : Object) → is_login_failed (Some (fault_cause x)) ≡ false
+fault-unlogged Object.Client = refl
+fault-unlogged Object.Target = refl
+fault-unlogged Object.Door = refl
+fault-unlogged Object.Port = refl
 
-plain-with : (d : Dialling) (o : DialOutcome) (fault : Option Object) → IsPlainRecord (behind d (at_of o) d.sent [] (with_object fault (cause_of o)))
-plain-with d o fault = plain-behind d (at_of o) d.sent [] (with_object fault (cause_of o)) (λ e. refl) (fails-caused o fault)
-    (first-due d _) (plain_to_target d.c (at_of o), refl) (payload-none (at_of o))
+pub unlogged : (o : DialOutcome) (fault : Option Object) → is_login_failed (with_object fault (cause_of o)) ≡ false
+unlogged (DialOutcome.CameUp local) None = refl
+unlogged (DialOutcome.CameUp local) (Some x) = fault-unlogged x
+unlogged DialOutcome.WasRefused None = refl
+unlogged DialOutcome.WasRefused (Some x) = refl
+unlogged DialOutcome.NoHost None = refl
+unlogged DialOutcome.NoHost (Some x) = refl
+unlogged DialOutcome.NoNet None = refl
+unlogged DialOutcome.NoNet (Some x) = refl
+unlogged DialOutcome.Fault None = refl
+unlogged DialOutcome.Fault (Some x) = refl
+
+-- what a turn owes that has dialled, whichever write has failed
+pub due-as : (d : Dialling) (o : DialOutcome) (fault : Option Object) (sent_c sent_t : List ℕ) → owed_c (behind d (at_of o) sent_c sent_t (with_object fault (cause_of o))) ≡ due_c d o
+due-as d o fault sent_c sent_t =
+    ap (λ w. w ++ (success_reply d.c (at_of o) ++ (payload_to_client [] (at_of o) ++ refusal_owed d.c d.chosen (at_of o) (with_object fault (cause_of o))))) (same-opening d.c d.chosen (with_object fault (cause_of o)) (unlogged o fault))
+    ∙ (ap (λ z. opening_owed d.c d.chosen None ++ (success_reply d.c (at_of o) ++ (z ++ refusal_owed d.c d.chosen (at_of o) (with_object fault (cause_of o))))) (payload-none (at_of o))
+    ∙ due-with d o fault)
+
+pub first-due : (d : Dialling) (z : List ℕ) → IsPrefix d.sent (opening_owed d.c d.chosen None ++ z)
+first-due d z = ((d.sent').0 ++ z, sym (append_assoc d.sent (d.sent').0 z) ∙ ap (λ s. s ++ z) ((d.sent').1 ∙ append-nil (opening_owed d.c d.chosen None)))
+
+plain-with : (d : Dialling) (o : DialOutcome) (fault : Option Object) → IsPlainRecord d.users (behind d (at_of o) d.sent [] (with_object fault (cause_of o)))
+plain-with d o fault = plain-behind d (at_of o) d.sent [] (with_object fault (cause_of o)) (λ e. refl) (fails-caused o fault) (unlogged o fault)
+    (first-due d _) (due_t d (at_of o), refl) (payload-none (at_of o))
 
 owes-c : (d : Dialling) (o : DialOutcome) (fault : Option Object) → owed_to_client (basis_of d) (behind d (at_of o) d.sent [] (with_object fault (cause_of o))) ≡ due_c d o
 owes-c d o fault = plain-owes-client d.users d.pubs (behind d (at_of o) d.sent [] (with_object fault (cause_of o))) (plain-with d o fault) d.direct
-    ∙ (ap (λ z. chosen_reply d.chosen ++ (success_reply d.c (at_of o) ++ (z ++ refusal_owed d.c (at_of o) (with_object fault (cause_of o))))) (payload-none (at_of o)) ∙ due-with d o fault)
+    ∙ due-as d o fault d.sent []
 
-owes-t : (d : Dialling) (o : DialOutcome) (fault : Option Object) → owed_to_target (basis_of d) (behind d (at_of o) d.sent [] (with_object fault (cause_of o))) ≡ plain_to_target d.c (at_of o)
+owes-t : (d : Dialling) (o : DialOutcome) (fault : Option Object) → owed_to_target (basis_of d) (behind d (at_of o) d.sent [] (with_object fault (cause_of o))) ≡ due_t d (at_of o)
 owes-t d o fault = plain-owes-target d.users d.pubs (behind d (at_of o) d.sent [] (with_object fault (cause_of o))) (plain-with d o fault) d.direct
 
 -- ---- the writes
@@ -92,7 +119,7 @@ FailedWrite d o rest_c rest_t (Some _) unwritten = ⊥
 pub record ReachWrites (d : Dialling) (o : DialOutcome) (y_c rest_c sent_c rest_t sent_t : List ℕ) (fault : Option Object) (unwritten : Bool) : Type 0 where
   pub sent_c' : sent_c ≡ d.sent ++ y_c
   pub all_c : (d.sent ++ y_c) ++ rest_c ≡ due_c d o
-  pub all_t : sent_t ++ rest_t ≡ plain_to_target d.c (at_of o)
+  pub all_t : sent_t ++ rest_t ≡ due_t d (at_of o)
   pub failing : FailedWrite d o rest_c rest_t fault unwritten
 
 or-middle : (a b c : Bool) → b ≡ true → a || b || c ≡ true
@@ -112,9 +139,9 @@ pending-c : (d : Dialling) (o : DialOutcome) (fault : Option Object) (y_c rest_c
     → has_pending (basis_of d) (behind d (at_of o) d.sent [] (with_object fault (cause_of o))) Object.Client ≡ true
 pending-c d o fault y_c rest_c all some = ap (λ z. not (is_nothing (drop (length d.sent) z))) (owes-c d o fault) ∙ ap not (still-left d.sent y_c rest_c (due_c d o) all some)
 
-pending-t : (d : Dialling) (o : DialOutcome) (fault : Option Object) (sent_t rest_t : List ℕ) → sent_t ++ rest_t ≡ plain_to_target d.c (at_of o) → 0 < length rest_t
+pending-t : (d : Dialling) (o : DialOutcome) (fault : Option Object) (sent_t rest_t : List ℕ) → sent_t ++ rest_t ≡ due_t d (at_of o) → 0 < length rest_t
     → has_pending (basis_of d) (behind d (at_of o) d.sent [] (with_object fault (cause_of o))) Object.Target ≡ true
-pending-t d o fault sent_t rest_t all some = ap (λ z. not (is_nothing (drop 0 z))) (owes-t d o fault) ∙ ap not (still-left [] sent_t rest_t (plain_to_target d.c (at_of o)) all some)
+pending-t d o fault sent_t rest_t all some = ap (λ z. not (is_nothing (drop 0 z))) (owes-t d o fault) ∙ ap not (still-left [] sent_t rest_t (due_t d (at_of o)) all some)
 
 faults-as : (d : Dialling) (o : DialOutcome) (rest_c rest_t : List ℕ) (fault : Option Object) (unwritten : Bool) → FailedWrite d o rest_c rest_t fault unwritten
     → with_fault fault unwritten (behind d (at_of o) d.sent [] (cause_of o)) ≡ Some (behind d (at_of o) d.sent [] (with_object fault (cause_of o)))
@@ -150,12 +177,12 @@ sends-as d o y_c rest_c sent_c rest_t sent_t fault unwritten k = record {
 
 -- ---- from what was dialled
 
-pub judged-of : (r : Record) (ds : List Decision) (g : ℕ) (rule : Option ℕ) (g' : ℕ) (facts : Facts) (verdict : Verdict) (route : Option ℕ)
-    → ds ≡ Decision.Opened g rule None ∷ Decision.Granted g' facts verdict route None ∷ [] → HasDecided r ds → Judged r facts None
-judged-of r ds g rule g' facts verdict route is h = subst (HasDecided r) is h
+pub judged-of : (users : List User) (r : Record) (ds : List Decision) (g : ℕ) (rule : Option ℕ) (g' : ℕ) (facts : Facts) (verdict : Verdict) (route : Option ℕ)
+    → ds ≡ Decision.Opened g rule None ∷ Decision.Granted g' facts verdict route None ∷ [] → HasDecided users r ds → Judged users r facts None
+judged-of users r ds g rule g' facts verdict route is h = subst (HasDecided users r) is h
 
-pub judged-in : {L : Type 0} (told : L → Told) (basis : Basis) (net net' : NetTold) (now : ℕ) (a b : Assoc L) (o : DialOutcome) (k : HasDialled told basis net net' now a b o) → Judged a.state k.facts None
-judged-in told basis net net' now a b o k = judged-of a.state (a.state).decisions k.g k.rule k.g' k.facts k.verdict k.route k.granted' ((k.stands).plain).decided
+pub judged-in : {L : Type 0} (told : L → Told) (basis : Basis) (net net' : NetTold) (now : ℕ) (a b : Assoc L) (o : DialOutcome) (k : HasDialled told basis net net' now a b o) → Judged basis.users a.state k.facts None
+judged-in told basis net net' now a b o k = judged-of basis.users a.state (a.state).decisions k.g k.rule k.g' k.facts k.verdict k.route k.granted' ((k.stands).plain).decided
 
 abbrev pub dialling_of : {L : Type 0} (told : L → Told) (users : List User) (pubs : List Config) (generation : ℕ) (config : Config) (most : ℕ) (h : List Line) (marks : List StopBy)
     (net net' : NetTold) (now : ℕ) (a b : Assoc L) (o : DialOutcome) → HasDialled told (socks users pubs) net net' now a b o → Dialling
@@ -177,10 +204,11 @@ dialling_of told users pubs generation config most h marks net net' now a b o k 
   c = (a.state).c;
   sent = (a.state).sent_c;
   chosen = (a.state).chosen;
+  request = asked'.request;
+  len = asked'.len;
   served = ((k.stands).plain).served;
   chosen' = ((k.stands).plain).chosen';
-  whole = (judged-in told (socks users pubs) net net' now a b o k).whole;
-  version = (judged-in told (socks users pubs) net net' now a b o k).version;
+  whole = asked'.whole;
   sent' = subst (λ (ds : List Decision). IsPrefix (a.state).sent_c (owed_c (let r = a.state in record r { decisions = ds; cause = None }))) k.granted'
       (subst (λ (o : Option Cause). IsPrefix (a.state).sent_c (owed_c (let r = a.state in record r { cause = o }))) k.uncaused ((k.stands).plain).sent_c);
   direct = direct'.direct;
@@ -189,6 +217,9 @@ dialling_of told users pubs generation config most h marks net net' now a b o k 
   where
     direct' : GoesDirect (socks users pubs) (Decision.Opened k.g k.rule None ∷ Decision.Granted k.g' k.facts k.verdict k.route None ∷ [])
     direct' = subst (GoesDirect (socks users pubs)) k.granted' (k.stands).direct
+
+    asked' : HasAsked users a.state
+    asked' = (judged-in told (socks users pubs) net net' now a b o k).asked
 
 pub before-is : {L : Type 0} (told : L → Told) (users : List User) (pubs : List Config) (generation : ℕ) (config : Config) (most : ℕ) (h : List Line) (marks : List StopBy)
     (net net' : NetTold) (now : ℕ) (a b : Assoc L) (o : DialOutcome) (k : HasDialled told (socks users pubs) net net' now a b o)
@@ -215,7 +246,7 @@ before-is told users pubs generation config most h marks net net' now a b o k = 
   done = ((k.stands).plain).undone i;
 }
   where
-    j : Judged a.state k.facts None
+    j : Judged users a.state k.facts None
     j = judged-in told (socks users pubs) net net' now a b o k
 
 pub behind-is : {L : Type 0} (told : L → Told) (users : List User) (pubs : List Config) (generation : ℕ) (config : Config) (most : ℕ) (h : List Line) (marks : List StopBy)
@@ -321,7 +352,7 @@ turns-reached told counts d net net' a z o y_c rest_c rest_t full_c full_t fault
       (sends-as d o y_c rest_c (d.sent ++ y_c) rest_t (z.state).sent_t fault unwritten h.writes);
   state' = h.state';
   desk = (refl, refl);
-  goes_on = subst IsPlainRecord (sym h.state') plain;
+  goes_on = subst (IsPlainRecord d.users) (sym h.state') plain;
   direct = record { direct = d.direct; known = d.known };
   c = sym (append-nil d.c);
   t = refl;
@@ -361,12 +392,9 @@ turns-reached told counts d net net' a z o y_c rest_c rest_t full_c full_t fault
     zero-more : (n : ℕ) → n ≡ 0 + n
     zero-more n = omega arith
 
-    all : (d.sent ++ y_c) ++ rest_c ≡ chosen_reply d.chosen ++ (success_reply d.c (at_of o) ++ ([] ++ refusal_owed d.c (at_of o) (with_object fault (cause_of o))))
-    all = (h.writes).all_c ∙ sym (due-with d o fault)
+    owed : (d.sent ++ y_c) ++ rest_c ≡ owed_c x
+    owed = (h.writes).all_c ∙ sym (due-as d o fault (d.sent ++ y_c) (z.state).sent_t)
 
-    owed : (d.sent ++ y_c) ++ rest_c ≡ chosen_reply d.chosen ++ (success_reply d.c (at_of o) ++ (payload_to_client [] (at_of o) ++ refusal_owed d.c (at_of o) (with_object fault (cause_of o))))
-    owed = all ∙ ap (λ w. chosen_reply d.chosen ++ (success_reply d.c (at_of o) ++ (w ++ refusal_owed d.c (at_of o) (with_object fault (cause_of o))))) (sym (payload-none (at_of o)))
-
-    plain : IsPlainRecord x
-    plain = plain-behind d (at_of o) (d.sent ++ y_c) (z.state).sent_t (with_object fault (cause_of o)) h.unsent_t (fails-caused o fault)
-        (rest_c, all) (rest_t, (h.writes).all_t) (payload-none (at_of o))
+    plain : IsPlainRecord d.users x
+    plain = plain-behind d (at_of o) (d.sent ++ y_c) (z.state).sent_t (with_object fault (cause_of o)) h.unsent_t (fails-caused o fault) (unlogged o fault)
+        (rest_c, (h.writes).all_c ∙ sym (due-with d o fault)) (rest_t, (h.writes).all_t) (payload-none (at_of o))

@@ -4,9 +4,8 @@ use mathlib.Core.List.{IsPrefix}
 use Rattle.addr_pattern.specs.declared.endpoint.Endpoint.{Endpoint}
 use Rattle.conf_model.specs.declared.config.Config.{Config}
 use Rattle.conf_model.specs.declared.protocol.Command.{Command}
-use Rattle.conf_model.specs.declared.protocol.Version.{Version}
 use Rattle.conf_model.specs.declared.user.User.{User}
-use Rattle.conf_model.specs.Handshake.{version_of}
+use Rattle.conf_model.specs.Handshake.{Request, Split, login_place}
 use Rattle.net_ends.specs.Nets.{DialOutcome}
 use Rattle.rule_list.specs.declared.facts.Facts.{Facts}
 use Rattle.rule_list.specs.declared.verdict.Verdict.{Verdict}
@@ -27,16 +26,17 @@ use Rattle.socks_machine.specs.Datagrams.{owed_datagrams}
 use Rattle.socks_machine.specs.Decisions.{Grant}
 use Rattle.socks_machine.specs.InTurn.{Called}
 use Rattle.socks_machine.specs.Owed.{owed_to_client, owed_to_target}
+use Rattle.socks_machine.specs.Inputs.{is_served_split}
 use Rattle.socks_machine.specs.Phase.{Phase, phase, began}
-use Rattle.socks_machine.specs.Served.{is_served_input, is_whole_input}
 use Rattle.socks_machine.specs.Settle.{first_cause}
-use Rattle.socks_machine.specs.Socks.{socks, chosen_reply}
+use Rattle.socks_machine.specs.Socks.{socks, chosen_reply, passed_reply}
 use Rattle.socks_machine.specs.Turn.{turn, moves, fault_fits, with_fault, fault_cause}
 use Rattle.socks_machine.proofs.CallLaws.{answers-call}
-use Rattle.socks_machine.specs.View.{proxy_in}
-use Rattle.assoc_core.specs.Plain.{IsPlainRecord, HasChosen, success_reply, refusal_owed, plain_to_target, payload_to_client}
+use Rattle.socks_machine.specs.View.{proxy_in, asks_login}
+use Rattle.assoc_core.specs.Plain.{IsPlainRecord, HasAsked, HasChosen, split_by, prelude_of, is_login_failed, opening_owed, success_reply, refusal_owed, plain_to_target, payload_to_client}
 use Rattle.assoc_core.specs.Reaching.{at_of, cause_of}
 use Rattle.assoc_core.specs.Turns.{Acts, event_of, context, outer_of}
+use Rattle.assoc_core.proofs.Payload.{unfailed}
 use Rattle.assoc_core.proofs.PlainRecords.{and-false, reach-phase, passed_grant}
 use Rattle.assoc_core.proofs.TalkCloses.{sends}
 use Rattle.assoc_core.proofs.Talking.{Party}
@@ -62,11 +62,12 @@ pub record Dialling : Type 0 where
   pub c : List ℕ
   pub sent : List ℕ
   pub chosen : Option Chosen
-  pub served : is_served_input c ≡ true
+  pub request : Request
+  pub len : ℕ
+  pub served : is_served_split (split_by users chosen c) ≡ true
   pub chosen' : HasChosen c chosen
-  pub whole : is_whole_input c ≡ true
-  pub version : version_of c ≡ Some Version.V5
-  pub sent' : IsPrefix sent (chosen_reply chosen ++ [])
+  pub whole : split_by users chosen c ≡ Split.Whole request len
+  pub sent' : IsPrefix sent (opening_owed c chosen None ++ [])
   pub direct : proxy_in route (numbered pubs g') ≡ None
   pub known : g' ≤ length pubs
 
@@ -119,7 +120,7 @@ abbrev pub grant_of : Dialling → Grant
 grant_of d = passed_grant d.g' (connecting d.asked) d.verdict d.route
 
 pub phase-before : (d : Dialling) → phase (basis_of d) (before d) ≡ Phase.Reach (grant_of d)
-phase-before d = reach-phase d.users d.pubs (before d) d.g d.rule d.g' (connecting d.asked) d.verdict d.route refl refl d.served d.chosen' d.whole d.version
+phase-before d = reach-phase d.users d.pubs (before d) d.g d.rule d.g' (connecting d.asked) d.verdict d.route refl refl d.served (record { request = d.request; len = d.len; whole = d.whole })
 
 -- ---- the call
 
@@ -163,29 +164,41 @@ called-as d DialOutcome.Fault = record {
 
 -- ---- what is owed behind it
 
-pub plain-behind : (d : Dialling) (at : Option Endpoint) (sent_c sent_t : List ℕ) (cause : Option Cause) → (at ≡ None → sent_t ≡ []) → (at ≡ None → is_some cause ≡ true)
-    → IsPrefix sent_c (chosen_reply d.chosen ++ (success_reply d.c at ++ ([] ++ refusal_owed d.c at cause))) → IsPrefix sent_t (plain_to_target d.c at)
-    → (payload_to_client [] at ≡ []) → IsPlainRecord (behind d at sent_c sent_t cause)
-plain-behind d at sent_c sent_t cause unreached failed c t none = record {
+-- the answers to the greeting and the login are the same where no login has failed
+pub same-opening : (c : List ℕ) (chosen : Option Chosen) (cause : Option Cause) → is_login_failed cause ≡ false → opening_owed c chosen cause ≡ opening_owed c chosen None
+same-opening c chosen cause h = ap (λ (b : Bool). chosen_reply chosen ++ passed_reply (asks_login chosen && (is_some (login_place c) && not b))) h
+
+-- the client's bytes behind its prelude, where the target was reached
+abbrev pub due_t : Dialling → Option Endpoint → List ℕ
+due_t d at = plain_to_target (prelude_of (before d)) d.c at
+
+pub plain-behind : (d : Dialling) (at : Option Endpoint) (sent_c sent_t : List ℕ) (cause : Option Cause) → (at ≡ None → sent_t ≡ []) → (at ≡ None → is_some cause ≡ true) → is_login_failed cause ≡ false
+    → IsPrefix sent_c (opening_owed d.c d.chosen None ++ (success_reply d.c at ++ ([] ++ refusal_owed d.c d.chosen at cause))) → IsPrefix sent_t (due_t d at)
+    → (payload_to_client [] at ≡ []) → IsPlainRecord d.users (behind d at sent_c sent_t cause)
+plain-behind d at sent_c sent_t cause unreached caused unlogged c t none = record {
   undone = refl;
   unclosed = refl;
   grams = refl;
   sent_u = refl;
   served = d.served;
   chosen' = d.chosen';
+  failed = unlogged ∙ sym (unfailed d.users (behind d at sent_c sent_t cause) asked');
   decided = record {
-    whole = d.whole;
-    version = d.version;
+    asked = asked';
     command = refl;
     unreached = λ e. record { t = refl; sent_t = unreached e; end_t = refl; shut_c = refl; shut_t = refl };
-    failed = failed;
+    failed = caused;
     apart = refl;
     shut_c = λ e. absurd (cc);
     shut_t = λ e. absurd (cc);
   };
-  sent_c = subst (λ (z : List ℕ). IsPrefix sent_c (chosen_reply d.chosen ++ (success_reply d.c at ++ (z ++ refusal_owed d.c at cause)))) (sym none) c;
+  sent_c = subst (λ (w : List ℕ). IsPrefix sent_c (w ++ (success_reply d.c at ++ (payload_to_client [] at ++ refusal_owed d.c d.chosen at cause)))) (sym (same-opening d.c d.chosen cause unlogged))
+      (subst (λ (z : List ℕ). IsPrefix sent_c (opening_owed d.c d.chosen None ++ (success_reply d.c at ++ (z ++ refusal_owed d.c d.chosen at cause)))) (sym none) c);
   sent_t = t;
 }
+  where
+    asked' : HasAsked d.users (behind d at sent_c sent_t cause)
+    asked' = record { request = d.request; len = d.len; whole = d.whole }
 
 pub payload-none : (at : Option Endpoint) → payload_to_client [] at ≡ []
 payload-none None = refl

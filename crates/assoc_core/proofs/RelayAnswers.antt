@@ -1,4 +1,4 @@
--- The answers of a turn in a relay of the first path.
+-- The answers of a turn in a relay without a proxy.
 use Rattle.std.proofs.Common.{◌≡◌, ℕ, ◌<◌, ◌⊎◌, inl, inr, Bool, true, false, ◌&&◌, ◌||◌, not, if◌then◌else◌, nat_le, Option, Some, None, List, [], refl, sym, ap, subst, ◌∙◌, length}
 use Rattle.addr_pattern.specs.declared.endpoint.Endpoint.{Endpoint}
 use Rattle.conf_model.specs.declared.config.Config.{Config}
@@ -29,35 +29,33 @@ use Rattle.assoc_core.specs.declared.assoc.Next.{Next}
 use Rattle.assoc_core.specs.declared.relay.Pass.{Pass}
 use Rattle.assoc_core.specs.Carrying.{Passes, has_ended, is_read, is_sound, is_idle, is_full, is_unwritten, is_quantum, fault_of, unwritten_of, has_pending, took_quantum}
 use Rattle.assoc_core.specs.Closing.{Closed}
-use Rattle.assoc_core.specs.Plain.{IsPlainRecord}
+use Rattle.assoc_core.specs.Plain.{IsPlainRecord, is_login_failed, prelude_of}
 use Rattle.assoc_core.specs.Stands.{HoldsTarget, Stands}
 use Rattle.assoc_core.specs.Turns.{event_of, context, Turns, mark_of}
 use Rattle.assoc_core.proofs.PassLaws.{ended-of, unread-of, source-of, end-of, unsound-of, unwritten-left, sent-of, nothing-of, FaultTells, fault-tells, sound-written}
 use Rattle.assoc_core.proofs.RelayEnds.{InRelay, InFault, FailsSide, FailsOn, Resting, goes-again, goes-waiting, Failed, fails, fault_acts, both, some-left}
-use Rattle.assoc_core.proofs.RelayCloses.{closes-with, rests-with, pending-none, sinks-by, finishes}
+use Rattle.assoc_core.proofs.Rests.{rests-with}
+use Rattle.assoc_core.proofs.RelayCloses.{closes-with, pending-none, sinks-by, finishes}
 use Rattle.assoc_core.proofs.RelayRecords.{plain-tcp}
-use Rattle.assoc_core.proofs.RelaySums.{clash, Begun, shut-c, shut-t, sums-carried}
+use Rattle.assoc_core.proofs.RelaySums.{clash, Begun, shut-c, shut-t, sums-carried, unfailed-yet}
 use Rattle.assoc_core.proofs.RelayTurns.{RelayTurn, pass_acts, pass_leaves, pass-sums, pass-leaves, relay-turns}
 
 -- ---- the close
 
-udp-same : (r : Record) → IsPlainRecord r → is_udp r ≡ false
-udp-same r plain = plain-tcp r plain
-
 -- where the law is that it closes, it closes
 pub relay-closes : {L : Type 0} (told : L → Told) (counts : L → Counts) (stands : List Line → List StopBy → Type 0)
     (users : List User) (pubs : List Config) (generation : ℕ) (config : Config) (cap : ℕ) (h : List Line) (marks : List StopBy) (now : ℕ) (net : NetTold)
-    (a mid : Assoc L) (e : Ended L) (pass : Pass) (k : RelayTurn told counts (socks users pubs) a (Next.Done e) pass) (fault : Option Object) (unwritten : Bool) (cause : Cause)
+    (a mid : Assoc L) (e : Ended L) (pass : Pass) (k : RelayTurn told counts (socks users pubs) a (Next.Done e) pass) (fault : Option Object) (unwritten : Bool) (cause : Cause) → is_login_failed (Some cause) ≡ false
     → fault_of pass ≡ fault → unwritten_of pass ≡ unwritten → mid.state ≡ k.new → Closed stands h marks cause mid e
     → ((worker : ℕ) (logged : Bool) → turn (context users pubs generation config cap h marks)
     (event_of worker a.state.number now (record (pass_acts told counts a (Next.Done e) pass k) { fault = fault; unwritten = unwritten; outer = Outer.Desk logged }) NextMark.Done) a.state
     ≡ Some (marked NextMark.Done (call_close h marks (pass_leaves told counts a (Next.Done e) pass k (Some cause)) cause logged)))
     → Turns told counts stands (context users pubs generation config cap h marks) now net net a (Next.Done e)
-relay-closes {L} told counts stands users pubs generation config cap h marks now net a mid e pass k fault unwritten cause is_fault is_unwritten' m closed law =
+relay-closes {L} told counts stands users pubs generation config cap h marks now net a mid e pass k fault unwritten cause sound' is_fault is_unwritten' m closed law =
     relay-turns told counts stands users pubs generation config cap h marks now net a (Next.Done e) pass k fault unwritten (Outer.Desk closed.closes.logged) (Some cause)
-    (cause_of_shut (at_close h marks (close_line x cause) closed.closes.logged).said) true _ _ is_fault is_unwritten' tt
+    (cause_of_shut (at_close h marks (close_line x cause) closed.closes.logged).said) true _ _ sound' is_fault is_unwritten' tt
     (λ worker. law worker closed.closes.logged) state (subst (λ (l : CloseLine). stands (at_close h marks l closed.closes.logged).h (at_close h marks l closed.closes.logged).marks) line closed.closes.stands')
-    (ap (λ (z : Record). z.done) state, ap is_udp state ∙ plain-tcp a.state k.begun.plain, ap (λ (z : Record). z.sent_u) state ∙ k.begun.plain.sent_u)
+    (ap (λ (z : Record). z.done) state, ap is_udp state ∙ plain-tcp users a.state k.begun.plain, ap (λ (z : Record). z.sent_u) state ∙ k.begun.plain.sent_u)
   where
     x : Record
     x = pass_leaves told counts a (Next.Done e) pass k (Some cause)
@@ -132,9 +130,9 @@ pub relay-again : {L : Type 0} (told : L → Told) (counts : L → Counts) (stan
     → a.state.since ≡ now → (k.new.shut_c ≡ true → k.new.shut_t ≡ true → ⊥) → took_quantum pass ≡ true → stands h marks
     → Turns told counts stands (context users pubs generation config cap h marks) now net net a (Next.Again mid)
 relay-again told counts stands users pubs generation config cap h marks now net a mid pass k none written m same unshut took desked =
-    relay-turns told counts stands users pubs generation config cap h marks now net a (Next.Again mid) pass k None false Outer.Nothing a.state.cause a.state.at_close a.state.done h marks none written tt
+    relay-turns told counts stands users pubs generation config cap h marks now net a (Next.Again mid) pass k None false Outer.Nothing a.state.cause a.state.at_close a.state.done h marks (unfailed-yet k.begun) none written tt
     (λ worker. goes-again users pubs generation config cap h marks worker a.state.number now a.state k.at _ _ _ _ _ _ _ _ _ _ _ _ _ _ relay same (quantum-of told counts a (Next.Again mid) pass k ∙ took))
-    leaves desked (subst IsPlainRecord (sym leaves) (sums-carried a.state k.at _ _ _ _ _ _ _ _ _ _ a.state.cause k.begun relay.sums relay.apart))
+    leaves desked (subst (IsPlainRecord users) (sym leaves) (sums-carried a.state k.at _ _ _ _ _ _ _ _ _ _ a.state.cause (unfailed-yet k.begun) k.begun relay.sums relay.apart))
   where
     relay : InRelay (socks users pubs) a.state k.at k.passes.takes_c.part k.passes.takes_t.part k.passes.gives_c.part k.passes.gives_c.rest k.passes.gives_t.part k.passes.gives_t.rest
         k.passes.takes_c.ends k.passes.takes_t.ends k.passes.gives_c.shuts k.passes.gives_t.shuts
@@ -163,9 +161,9 @@ pub relay-waits : {L : Type 0} (told : L → Told) (counts : L → Counts) (stan
     → a.state.since ≡ now → (k.new.shut_c ≡ true → k.new.shut_t ≡ true → ⊥) → took_quantum pass ≡ false → stands h marks
     → Turns told counts stands (context users pubs generation config cap h marks) now net net a (Next.Wait mid)
 relay-waits told counts stands users pubs generation config cap h marks now net a mid pass k none written m same unshut took desked =
-    relay-turns told counts stands users pubs generation config cap h marks now net a (Next.Wait mid) pass k None false Outer.Nothing a.state.cause a.state.at_close a.state.done h marks none written tt
+    relay-turns told counts stands users pubs generation config cap h marks now net a (Next.Wait mid) pass k None false Outer.Nothing a.state.cause a.state.at_close a.state.done h marks (unfailed-yet k.begun) none written tt
     (λ worker. goes-waiting users pubs generation config cap h marks worker a.state.number now a.state k.at _ _ _ _ _ _ _ _ _ _ _ _ _ _ relay same (quantum-of told counts a (Next.Wait mid) pass k ∙ took) resting)
-    leaves desked (subst IsPlainRecord (sym leaves) (sums-carried a.state k.at _ _ _ _ _ _ _ _ _ _ a.state.cause k.begun relay.sums relay.apart))
+    leaves desked (subst (IsPlainRecord users) (sym leaves) (sums-carried a.state k.at _ _ _ _ _ _ _ _ _ _ a.state.cause (unfailed-yet k.begun) k.begun relay.sums relay.apart))
   where
     relay : InRelay (socks users pubs) a.state k.at k.passes.takes_c.part k.passes.takes_t.part k.passes.gives_c.part k.passes.gives_c.rest k.passes.gives_t.part k.passes.gives_t.rest
         k.passes.takes_c.ends k.passes.takes_t.ends k.passes.gives_c.shuts k.passes.gives_t.shuts
@@ -242,6 +240,13 @@ in-fault told counts a next pass k o h = record {
     by-write false true t' c' e = inl (unwritten-left k.passes.gives_c c').0
     by-write false false t' c' e = absurd (clash (is_unwritten pass.gave_t || is_unwritten pass.gave_c) e (rw (t', c') refl))
 
+-- a failed call fails no login
+fault-unfailed : (o : Object) → is_login_failed (Some (fault_cause o)) ≡ false
+fault-unfailed Object.Client = refl
+fault-unfailed Object.Target = refl
+fault-unfailed Object.Door = refl
+fault-unfailed Object.Port = refl
+
 -- where a call failed, and it has nothing more to do, it closes
 pub fault-closes : {L : Type 0} (told : L → Told) (counts : L → Counts) (stands : List Line → List StopBy → Type 0)
     (users : List User) (pubs : List Config) (generation : ℕ) (config : Config) (cap : ℕ) (h : List Line) (marks : List StopBy) (now : ℕ) (net : NetTold)
@@ -250,10 +255,10 @@ pub fault-closes : {L : Type 0} (told : L → Told) (counts : L → Counts) (sta
     → (is_nothing k.passes.gives_c.rest && is_nothing k.passes.gives_t.rest) || unwritten_of pass || is_quiet (Some (fault_cause o)) ≡ true
     → Turns told counts stands (context users pubs generation config cap h marks) now net net a (Next.Done e)
 fault-closes told counts stands users pubs generation config cap h marks now net a mid e pass k o is_fault m closed same due =
-    relay-closes told counts stands users pubs generation config cap h marks now net a mid e pass k (Some o) (unwritten_of pass) (fault_cause o) is_fault refl m closed
+    relay-closes told counts stands users pubs generation config cap h marks now net a mid e pass k (Some o) (unwritten_of pass) (fault_cause o) (fault-unfailed o) is_fault refl m closed
     (λ worker logged. let f = fails users pubs generation config cap h marks worker a.state.number now a.state k.at _ _ _ _ _ _ _ _ _ _ (is_idle pass.took_c) (is_idle pass.took_t) (is_full pass.gave_c) (is_full pass.gave_t) o (unwritten_of pass) fault in
     closes-with (context users pubs generation config cap h marks) a.state worker a.state.number now _ _ _ _ (fault_cause o) logged f.turned (ap (λ p. is_calling p None) f.relays') f.fits same refl f.opened'
-    (ap (λ b. b || unwritten_of pass || is_quiet (Some (fault_cause o))) (pending-none users pubs a.state k.at _ _ _ _ _ _ _ _ _ _ (Some (fault_cause o)) fault.relay) ∙ due))
+    (ap (λ b. b || unwritten_of pass || is_quiet (Some (fault_cause o))) (pending-none users pubs a.state k.at _ _ _ _ _ _ _ _ _ _ (Some (fault_cause o)) (fault-unfailed o) fault.relay) ∙ due))
   where
     fault : InFault (socks users pubs) a.state k.at k.passes.takes_c.part k.passes.takes_t.part k.passes.gives_c.part k.passes.gives_c.rest k.passes.gives_t.part k.passes.gives_t.rest
         k.passes.takes_c.ends k.passes.takes_t.ends k.passes.gives_c.shuts k.passes.gives_t.shuts o (unwritten_of pass)
@@ -271,11 +276,11 @@ fault-rests told counts users pubs generation config cap h marks now worker a ne
     rests-with (context users pubs generation config cap h marks) a.state worker a.state.number now
     (fault_acts (pass_acts told counts a next pass k) Object.Target (unwritten_of pass) Outer.Nothing) _ _ _ Cause.TargetFault (mark_of next) f.turned (ap (λ p. is_calling p None) f.relays') f.fits same refl
     k.begun.plain.undone refl f.opened'
-    (ap (λ b. b || unwritten_of pass || false) (pending-none users pubs a.state k.at _ _ _ _ _ _ _ _ _ _ (Some Cause.TargetFault) fault.relay)
+    (ap (λ b. b || unwritten_of pass || false) (pending-none users pubs a.state k.at _ _ _ _ _ _ _ _ _ _ (Some Cause.TargetFault) refl fault.relay)
     ∙ (ap (λ b. (is_nothing k.passes.gives_c.rest && is_nothing k.passes.gives_t.rest) || b || false) written
     ∙ ((λ i. (nothing_c i && nothing_t i) || false || false) ∙ undue (is_full pass.gave_c) (is_full pass.gave_t) pending)))
     (sinks-by users pubs a.state k.at _ _ _ _ _ _ _ _ _ _ (Some Cause.TargetFault) (is_full pass.gave_c) (is_full pass.gave_t)
-    (event_of worker a.state.number now (fault_acts (pass_acts told counts a next pass k) Object.Target (unwritten_of pass) Outer.Nothing) NextMark.Going) refl fault.relay
+    (event_of worker a.state.number now (fault_acts (pass_acts told counts a next pass k) Object.Target (unwritten_of pass) Outer.Nothing) NextMark.Going) refl refl fault.relay
     (sink (is_nothing k.passes.gives_c.rest) (is_full pass.gave_c) nothing_c) (sink (is_nothing k.passes.gives_t.rest) (is_full pass.gave_t) nothing_t))
     (mark ∙ by-quantum (took_quantum pass) _ (quantum-of told counts a next pass k))
   where
@@ -315,9 +320,9 @@ pub fault-waits : {L : Type 0} (told : L → Told) (counts : L → Counts) (stan
     → mid.state ≡ record k.new { cause = Some Cause.TargetFault } → a.state.since ≡ now → took_quantum pass ≡ false → stands h marks
     → Turns told counts stands (context users pubs generation config cap h marks) now net net a (Next.Wait mid)
 fault-waits told counts stands users pubs generation config cap h marks now net a mid pass k is_fault written pending m same took desked =
-    relay-turns told counts stands users pubs generation config cap h marks now net a (Next.Wait mid) pass k (Some Object.Target) (unwritten_of pass) Outer.Nothing (Some Cause.TargetFault) a.state.at_close a.state.done h marks is_fault refl tt
+    relay-turns told counts stands users pubs generation config cap h marks now net a (Next.Wait mid) pass k (Some Object.Target) (unwritten_of pass) Outer.Nothing (Some Cause.TargetFault) a.state.at_close a.state.done h marks refl is_fault refl tt
     (λ worker. fault-rests told counts users pubs generation config cap h marks now worker a (Next.Wait mid) pass k is_fault written pending same (ap (λ b. if b then NextMark.Again else NextMark.Wait) (sym took)))
-    leaves desked (subst IsPlainRecord (sym leaves) (sums-carried a.state k.at _ _ _ _ _ _ _ _ _ _ (Some Cause.TargetFault) k.begun relay.sums relay.apart))
+    leaves desked (subst (IsPlainRecord users) (sym leaves) (sums-carried a.state k.at _ _ _ _ _ _ _ _ _ _ (Some Cause.TargetFault) refl k.begun relay.sums relay.apart))
   where
     relay : InRelay (socks users pubs) a.state k.at k.passes.takes_c.part k.passes.takes_t.part k.passes.gives_c.part k.passes.gives_c.rest k.passes.gives_t.part k.passes.gives_t.rest
         k.passes.takes_c.ends k.passes.takes_t.ends k.passes.gives_c.shuts k.passes.gives_t.shuts
@@ -332,9 +337,9 @@ pub fault-again : {L : Type 0} (told : L → Told) (counts : L → Counts) (stan
     → mid.state ≡ record k.new { cause = Some Cause.TargetFault } → a.state.since ≡ now → took_quantum pass ≡ true → stands h marks
     → Turns told counts stands (context users pubs generation config cap h marks) now net net a (Next.Again mid)
 fault-again told counts stands users pubs generation config cap h marks now net a mid pass k is_fault written pending m same took desked =
-    relay-turns told counts stands users pubs generation config cap h marks now net a (Next.Again mid) pass k (Some Object.Target) (unwritten_of pass) Outer.Nothing (Some Cause.TargetFault) a.state.at_close a.state.done h marks is_fault refl tt
+    relay-turns told counts stands users pubs generation config cap h marks now net a (Next.Again mid) pass k (Some Object.Target) (unwritten_of pass) Outer.Nothing (Some Cause.TargetFault) a.state.at_close a.state.done h marks refl is_fault refl tt
     (λ worker. fault-rests told counts users pubs generation config cap h marks now worker a (Next.Again mid) pass k is_fault written pending same (ap (λ b. if b then NextMark.Again else NextMark.Wait) (sym took)))
-    leaves desked (subst IsPlainRecord (sym leaves) (sums-carried a.state k.at _ _ _ _ _ _ _ _ _ _ (Some Cause.TargetFault) k.begun relay.sums relay.apart))
+    leaves desked (subst (IsPlainRecord users) (sym leaves) (sums-carried a.state k.at _ _ _ _ _ _ _ _ _ _ (Some Cause.TargetFault) refl k.begun relay.sums relay.apart))
   where
     relay : InRelay (socks users pubs) a.state k.at k.passes.takes_c.part k.passes.takes_t.part k.passes.gives_c.part k.passes.gives_c.rest k.passes.gives_t.part k.passes.gives_t.rest
         k.passes.takes_c.ends k.passes.takes_t.ends k.passes.gives_c.shuts k.passes.gives_t.shuts
@@ -352,7 +357,7 @@ pub relay-finishes : {L : Type 0} (told : L → Told) (counts : L → Counts) (s
     → k.new.shut_c ≡ true → k.new.shut_t ≡ true
     → Turns told counts stands (context users pubs generation config cap h marks) now net net a (Next.Done e)
 relay-finishes told counts stands users pubs generation config cap h marks now net a mid e pass k none written m closed same both_c both_t =
-    relay-closes told counts stands users pubs generation config cap h marks now net a mid e pass k None false Cause.Finished none written m closed
+    relay-closes told counts stands users pubs generation config cap h marks now net a mid e pass k None false Cause.Finished refl none written m closed
     (λ worker logged. finishes users pubs generation config cap h marks worker a.state.number now a.state k.at _ _ _ _ _ _ _ _ _ _ (is_idle pass.took_c) (is_idle pass.took_t) (is_full pass.gave_c) (is_full pass.gave_t) logged
     k.begun (pass-sums _ _ _ _ _ _ a.state k.new pass k.passes) same (sym k.passes.gives_c.shut' ∙ both_c) (sym k.passes.gives_t.shut' ∙ both_t))
 
@@ -361,7 +366,7 @@ relay-finishes told counts stands users pubs generation config cap h marks now n
 -- a pass that was made, and an association that ended behind it
 abbrev pub done-turn : {L : Type 0} {basis : Basis} (told : L → Told) (counts : L → Counts) (a mid : Assoc L) (e : Ended L) (link link' : L) (at : Endpoint) (pass : Pass)
     → Stands told basis a → Begun basis a.state at → a.target ≡ Some link → mid.target ≡ Some link'
-    → Passes (told a.client) (told mid.client) (told link) (told link') (counts a.client) (counts mid.client) a.state mid.state pass
+    → Passes (told a.client) (told mid.client) (told link) (told link') (counts a.client) (counts mid.client) (prelude_of a.state) a.state mid.state pass
     → e.client ≡ mid.client → e.target ≡ mid.target → RelayTurn told counts basis a (Next.Done e) pass
 done-turn {L} told counts a mid e link link' at pass stands begun there there' passes client target = record {
   link = link;
@@ -372,13 +377,13 @@ done-turn {L} told counts a mid e link link' at pass stands begun there there' p
   begun = begun;
   target = there;
   target' = target ∙ there';
-  passes = subst (λ (z : L). Passes (told a.client) (told z) (told link) (told link') (counts a.client) (counts z) a.state mid.state pass) (sym client) passes;
+  passes = subst (λ (z : L). Passes (told a.client) (told z) (told link) (told link') (counts a.client) (counts z) (prelude_of a.state) a.state mid.state pass) (sym client) passes;
 }
 
 -- the record in hand has no datagrams
-pub mid-tcp : (old new : Record) (client client' target target' : Told) (counts counts' : Counts) (pass : Pass) → IsPlainRecord old
-    → Passes client client' target target' counts counts' old new pass → is_udp new ≡ false
-mid-tcp old new client client' target target' counts counts' pass plain passes = ap is_udp passes.is ∙ plain-tcp old plain
+pub mid-tcp : (users : List User) (old new : Record) (client client' target target' : Told) (counts counts' : Counts) (pass : Pass) → IsPlainRecord users old
+    → Passes client client' target target' counts counts' (prelude_of old) old new pass → is_udp new ≡ false
+mid-tcp users old new client client' target target' counts counts' pass plain passes = ap is_udp passes.is ∙ plain-tcp users old plain
 
 pub none-written : (pass : Pass) → fault_of pass ≡ None → unwritten_of pass ≡ false
 none-written pass h = let f = tells-of pass None h in rw (sound-written pass.gave_t f.1, sound-written pass.gave_c f.3) refl

@@ -1,6 +1,5 @@
--- How a turn in a relay of the first path ends.
-use Rattle.std.proofs.Common.{◌≡◌, ℕ, zero, suc, ◌-◌, ◌<◌, ◌⊎◌, inl, inr, Bool, true, false, ◌&&◌, ◌||◌, ◌==◌, not, nat_le, Option, Some, List, [], ◌∷◌, ◌++◌, refl, sym, ap, subst, ◌∙◌, length, drop, append_assoc, arith}
-use Rattle.std.proofs.lemmas.Bool.{lt-leb}
+-- How a turn in a relay without a proxy ends.
+use Rattle.std.proofs.Common.{◌≡◌, ℕ, ◌<◌, ◌⊎◌, inl, inr, Bool, true, false, ◌&&◌, ◌||◌, not, nat_le, Option, Some, List, [], ◌∷◌, ◌++◌, refl, sym, ap, subst, ◌∙◌, length, drop, append_assoc, arith}
 use Rattle.std.proofs.Math.Seq.{drop-append_seam}
 use Rattle.addr_pattern.specs.declared.endpoint.Endpoint.{Endpoint}
 use Rattle.conf_model.specs.declared.config.Config.{Config}
@@ -23,34 +22,16 @@ use Rattle.socks_machine.specs.Relaying.{RelayFacts, Relaying, relayed}
 use Rattle.socks_machine.specs.Settle.{fix, first_cause, is_nothing}
 use Rattle.socks_machine.specs.Socks.{socks}
 use Rattle.socks_machine.specs.Taking.{holds}
-use Rattle.socks_machine.specs.Turn.{turn, aged, moves, quantum, took_quantum, rests, rests_in, sinks_rest, sources_rest, sides_rest, limit, is_late, fault_fits, fault_cause, may_fail, may_write, has_pending, may_be_shut, reads_in, is_there}
+use Rattle.socks_machine.specs.Turn.{turn, quantum, took_quantum, rests, rests_in, sinks_rest, sources_rest, sides_rest, is_late, fault_fits, fault_cause, may_fail, may_write, has_pending, may_be_shut, reads_in, is_there}
 use Rattle.socks_machine.proofs.RelayLaws.{relaying-reads, alike, began-same, relay-owes-caused}
 use Rattle.socks_machine.proofs.WaitLaws.{again, waits}
 use Rattle.socks_machine.proofs.StartLaws.{relay-fails}
-use Rattle.assoc_core.specs.Plain.{IsPlainRecord}
+use Rattle.assoc_core.specs.Plain.{IsPlainRecord, is_login_failed}
 use Rattle.assoc_core.specs.Turns.{Acts, event_of, context, links}
-use Rattle.assoc_core.proofs.PlainRecords.{and-false, decided-forms, plain-owes-client, plain-owes-target}
+use Rattle.assoc_core.proofs.PlainRecords.{decided-forms, plain-owes-client, plain-owes-target}
 use Rattle.assoc_core.proofs.RelayRecords.{plain-relay-facts}
-use Rattle.assoc_core.proofs.RelaySums.{Sums, summed, Begun, sum_acts, relays, sent-c, sent-t, sums-carried}
-
--- ---- the moment
-
-since-same : (b : Bool) (now since : ℕ) → since ≡ now → elim b [ true ↦ now | false ↦ since ] ≡ since
-since-same true now since h = sym h
-since-same false now since h = refl
-
--- a turn at the moment of the last one leaves that moment
-pub aged-same : (basis : Basis) (e : TurnEvent) (old r : Record) → r.since ≡ e.now → aged basis e old r ≡ r
-aged-same basis e old r h = λ i. record r { since = since-same (began basis r && (not (began basis old) || moves e)) e.now r.since h i }
-
--- nothing is late at the moment of the last turn
-pub never-late : (basis : Basis) (k : Config) (now : ℕ) (r : Record) → r.since ≡ now → is_late basis k now r ≡ false
-never-late basis k now r same = early (limit basis k r)
-  where
-    -- a limit of 0 is none
-    early : (n : ℕ) → not (n == 0) && nat_le n (now - r.since) ≡ false
-    early zero = refl
-    early (suc n) = ap (λ b. not (suc n == 0) && b) (lt-leb (suc n) (now - r.since) (omega (arith, same))) ∙ and-false (not (suc n == 0))
+use Rattle.assoc_core.proofs.Rests.{aged-same, never-late}
+use Rattle.assoc_core.proofs.RelaySums.{Sums, summed, Begun, sum_acts, relays, sent-c, sent-t, sums-carried, unfailed-yet}
 
 -- ---- NotYet
 
@@ -82,7 +63,7 @@ drop-sent sent rest owed h = ap (drop (length sent)) (sym h) ∙ drop-append_sea
 
 -- ---- the relay in hand
 
--- A turn of a relay in sums, in a context of the first path, where not both sides are shut.
+-- A turn of a relay in sums, where not both sides are shut.
 pub record InRelay (basis : Basis) (old : Record) (at : Endpoint) (c t part_c rest_c part_t rest_t : List ℕ) (end_c end_t shut_c shut_t : Bool) : Type 0 where
   pub begun : Begun basis old at
   pub sums : Sums old c t part_c rest_c part_t rest_t end_c end_t shut_c shut_t
@@ -98,21 +79,21 @@ in-phase users pubs generation config cap h marks old at c t end_c end_t b =
     let f = in-facts users pubs generation config cap h marks old at b in
     alike (socks users pubs) old (old.c ++ c) (old.t ++ t) end_c end_t f.direct (f.whole c) ∙ f.relays
 
-pub owes-c : (users : List User) (pubs : List Config) (old : Record) (at : Endpoint) (c t part_c rest_c part_t rest_t : List ℕ) (end_c end_t shut_c shut_t : Bool) (cause : Option Cause)
+pub owes-c : (users : List User) (pubs : List Config) (old : Record) (at : Endpoint) (c t part_c rest_c part_t rest_t : List ℕ) (end_c end_t shut_c shut_t : Bool) (cause : Option Cause) → is_login_failed cause ≡ false
     → InRelay (socks users pubs) old at c t part_c rest_c part_t rest_t end_c end_t shut_c shut_t
     → (old.sent_c ++ part_c) ++ rest_c ≡ owed_to_client (socks users pubs) (summed old c t part_c part_t end_c end_t shut_c shut_t cause)
-owes-c users pubs old at c t part_c rest_c part_t rest_t end_c end_t shut_c shut_t cause k =
-    sent-c old at c t part_c rest_c part_t rest_t end_c end_t shut_c shut_t cause k.begun k.sums
+owes-c users pubs old at c t part_c rest_c part_t rest_t end_c end_t shut_c shut_t cause f k =
+    sent-c old at c t part_c rest_c part_t rest_t end_c end_t shut_c shut_t cause f k.begun k.sums
     ∙ sym (plain-owes-client users pubs (summed old c t part_c part_t end_c end_t shut_c shut_t cause)
-    (sums-carried old at c t part_c rest_c part_t rest_t end_c end_t shut_c shut_t cause k.begun k.sums k.apart) k.begun.direct)
+    (sums-carried old at c t part_c rest_c part_t rest_t end_c end_t shut_c shut_t cause f k.begun k.sums k.apart) k.begun.direct)
 
-pub owes-t : (users : List User) (pubs : List Config) (old : Record) (at : Endpoint) (c t part_c rest_c part_t rest_t : List ℕ) (end_c end_t shut_c shut_t : Bool) (cause : Option Cause)
+pub owes-t : (users : List User) (pubs : List Config) (old : Record) (at : Endpoint) (c t part_c rest_c part_t rest_t : List ℕ) (end_c end_t shut_c shut_t : Bool) (cause : Option Cause) → is_login_failed cause ≡ false
     → InRelay (socks users pubs) old at c t part_c rest_c part_t rest_t end_c end_t shut_c shut_t
     → (old.sent_t ++ part_t) ++ rest_t ≡ owed_to_target (socks users pubs) (summed old c t part_c part_t end_c end_t shut_c shut_t cause)
-owes-t users pubs old at c t part_c rest_c part_t rest_t end_c end_t shut_c shut_t cause k =
+owes-t users pubs old at c t part_c rest_c part_t rest_t end_c end_t shut_c shut_t cause f k =
     sent-t old at c t part_c rest_c part_t rest_t end_c end_t shut_c shut_t cause k.begun k.sums
     ∙ sym (plain-owes-target users pubs (summed old c t part_c part_t end_c end_t shut_c shut_t cause)
-    (sums-carried old at c t part_c rest_c part_t rest_t end_c end_t shut_c shut_t cause k.begun k.sums k.apart) k.begun.direct)
+    (sums-carried old at c t part_c rest_c part_t rest_t end_c end_t shut_c shut_t cause f k.begun k.sums k.apart) k.begun.direct)
 
 -- ---- it goes on
 
@@ -187,10 +168,10 @@ goes-waiting users pubs generation config cap h marks worker number now old at c
     waiting_t = waiting_for_target s.basis x
 
     pending_c : pending_to_client s.basis x ≡ rest_c
-    pending_c = drop-sent (old.sent_c ++ part_c) rest_c _ (owes-c users pubs old at c t part_c rest_c part_t rest_t end_c end_t shut_c shut_t old.cause k)
+    pending_c = drop-sent (old.sent_c ++ part_c) rest_c _ (owes-c users pubs old at c t part_c rest_c part_t rest_t end_c end_t shut_c shut_t old.cause (unfailed-yet k.begun) k)
 
     pending_t : pending_to_target s.basis x ≡ rest_t
-    pending_t = drop-sent (old.sent_t ++ part_t) rest_t _ (owes-t users pubs old at c t part_c rest_c part_t rest_t end_c end_t shut_c shut_t old.cause k)
+    pending_t = drop-sent (old.sent_t ++ part_t) rest_t _ (owes-t users pubs old at c t part_c rest_c part_t rest_t end_c end_t shut_c shut_t old.cause (unfailed-yet k.begun) k)
 
     sources : sources_rest s.basis e x Phase.Relay ≡ true
     sources = both _ _
@@ -227,8 +208,8 @@ fault_acts x o unwritten outer = record x { fault = Some o; unwritten = unwritte
 abbrev pub desk_acts : Acts → Outer → Acts
 desk_acts x outer = record x { outer = outer }
 
-pub opened-by : (r : Record) (at : Endpoint) → IsPlainRecord r → reached_at r.decisions ≡ Some at → is_opened r.decisions ≡ true
-opened-by r at plain reaches = decided-forms r (λ ds. reached_at ds ≡ Some at → is_opened ds ≡ true) (record {
+pub opened-by : (users : List User) (r : Record) (at : Endpoint) → IsPlainRecord users r → reached_at r.decisions ≡ Some at → is_opened r.decisions ≡ true
+opened-by users r at plain reaches = decided-forms users r (λ ds. reached_at ds ≡ Some at → is_opened ds ≡ true) (record {
   nothing = λ fresh' k. absurd (cc);
   opened' = λ g rule d k. refl;
   granted' = λ g rule g' facts verdict route refused d k. refl;
@@ -300,7 +281,7 @@ fails users pubs generation config cap h marks worker number now old at c t part
   turned = subst (λ (z : Record). InTurn s old (record e { fault = Some o; unwritten = unwritten }) a (keep s a) (fix (Some (fault_cause o)) a) z) fixed (relay-fails s old e x o unwritten going there);
   fits = both _ _ (may-fail o k.fails) (written unwritten k.writes);
   relays' = in-phase users pubs generation config cap h marks old at c t (end_c || old.end_c) (end_t || old.end_t) k.relay.begun;
-  opened' = opened-by old at k.relay.begun.plain k.relay.begun.reaches;
+  opened' = opened-by users old at k.relay.begun.plain k.relay.begun.reaches;
 }
   where
     s : Context
@@ -331,10 +312,10 @@ fails users pubs generation config cap h marks worker number now old at c t part
     behind sent part rest owed h = ap (drop (length sent)) (sym h ∙ append_assoc sent part rest) ∙ drop-append_seam sent (part ++ rest)
 
     pending_c : pending_to_client s.basis a ≡ part_c ++ rest_c
-    pending_c = behind old.sent_c part_c rest_c _ (owes-c users pubs old at c t part_c rest_c part_t rest_t end_c end_t shut_c shut_t old.cause k.relay)
+    pending_c = behind old.sent_c part_c rest_c _ (owes-c users pubs old at c t part_c rest_c part_t rest_t end_c end_t shut_c shut_t old.cause (unfailed-yet k.relay.begun) k.relay)
 
     pending_t : pending_to_target s.basis a ≡ part_t ++ rest_t
-    pending_t = behind old.sent_t part_t rest_t _ (owes-t users pubs old at c t part_c rest_c part_t rest_t end_c end_t shut_c shut_t old.cause k.relay)
+    pending_t = behind old.sent_t part_t rest_t _ (owes-t users pubs old at c t part_c rest_c part_t rest_t end_c end_t shut_c shut_t old.cause (unfailed-yet k.relay.begun) k.relay)
 
     on-relay : (o : Object) → may_fail s.basis a o ≡ reads_in a Phase.Relay o || has_pending s.basis a o || may_be_shut s.basis a o
     on-relay o = ap (λ p. reads_in a p o || has_pending s.basis a o || may_be_shut s.basis a o)

@@ -1,4 +1,4 @@
--- A turn in a relay of the first path, whole.
+-- A turn in a relay without a proxy, whole.
 use Rattle.std.proofs.Common.{◌≡◌, ℕ, ◌-◌, ◌<◌, inl, inr, Bool, true, false, ◌&&◌, ◌||◌, not, if◌then◌else◌, Option, Some, None, List, [], ◌++◌, refl, sym, ap, subst, ◌∙◌, length, drop, length-append, arith, is_some}
 use Rattle.addr_pattern.specs.declared.endpoint.Endpoint.{Endpoint}
 use Rattle.conf_model.specs.declared.config.Config.{Config}
@@ -31,7 +31,7 @@ use Rattle.assoc_core.specs.declared.assoc.Assoc.{Assoc}
 use Rattle.assoc_core.specs.declared.assoc.Next.{Next}
 use Rattle.assoc_core.specs.declared.relay.Pass.{Pass}
 use Rattle.assoc_core.specs.Carrying.{Passes, is_read, is_sound, is_idle, is_full, fault_of, unwritten_of}
-use Rattle.assoc_core.specs.Plain.{IsPlainRecord, owed_c, owed_t, prelude}
+use Rattle.assoc_core.specs.Plain.{IsPlainRecord, is_login_failed, owed_c, owed_t, prelude_of}
 use Rattle.assoc_core.specs.Stands.{Holds, HoldsTarget, Stands}
 use Rattle.assoc_core.specs.Turns.{Acts, event_of, context, links, Turns, GoesOn, left_of, mark_of, DialsAre, PlanStays, IsOuterOf, IsIdle, IsFull, IsThereAnd, IsUnfailing, SameTarget}
 use Rattle.assoc_core.proofs.LinksHeld.{holds-taken, holds-given, ends-given, first-given, idle-given, full-taken, outside-given, outside-taken, outside-on, short}
@@ -45,7 +45,7 @@ use Rattle.assoc_core.proofs.Sendings.{rose-before, rose-after}
 -- ---- the sums of a pass
 
 -- the record that a pass leaves
-pub pass-leaves : (client client' target target' : Told) (counts counts' : Counts) (old new : Record) (pass : Pass) → (p : Passes client client' target target' counts counts' old new pass)
+pub pass-leaves : (client client' target target' : Told) (counts counts' : Counts) (old new : Record) (pass : Pass) → (p : Passes client client' target target' counts counts' (prelude_of old) old new pass)
     → new ≡ summed old p.takes_c.part p.takes_t.part p.gives_c.part p.gives_t.part p.takes_c.ends p.takes_t.ends p.gives_c.shuts p.gives_t.shuts old.cause
 pass-leaves client client' target target' counts counts' old new pass p = p.is ∙ (λ i. record old {
   c = p.takes_c.after' i;
@@ -58,13 +58,13 @@ pass-leaves client client' target target' counts counts' old new pass p = p.is �
   shut_t = p.gives_t.shut' i;
 })
 
-pub pass-sums : (client client' target target' : Told) (counts counts' : Counts) (old new : Record) (pass : Pass) → (p : Passes client client' target target' counts counts' old new pass)
+pub pass-sums : (client client' target target' : Told) (counts counts' : Counts) (old new : Record) (pass : Pass) → (p : Passes client client' target target' counts counts' (prelude_of old) old new pass)
     → Sums old p.takes_c.part p.takes_t.part p.gives_c.part p.gives_c.rest p.gives_t.part p.gives_t.rest p.takes_c.ends p.takes_t.ends p.gives_c.shuts p.gives_t.shuts
 pass-sums client client' target target' counts counts' old new pass p = record {
   may_c = p.takes_c.may;
   may_t = p.takes_t.may;
   pending_c = p.gives_c.pending' ∙ ap (λ (z : Record). drop (length old.sent_c) (owed_c z)) (pass-leaves client client' target target' counts counts' old new pass p);
-  pending_t = p.gives_t.pending' ∙ ap (λ z. drop (length old.sent_t) (drop prelude z)) p.takes_c.after';
+  pending_t = p.gives_t.pending' ∙ ap (λ z. drop (length old.sent_t) (drop (prelude_of old) z)) p.takes_c.after';
   once_c = p.gives_c.once;
   once_t = p.gives_t.once;
   due_c = λ e. let d = p.gives_c.due e in (sym p.takes_t.ended' ∙ ended-of p.takes_t d.0, d.1);
@@ -150,7 +150,7 @@ pub record RelayTurn {L : Type 0} (told : L → Told) (counts : L → Counts) (b
   pub begun : Begun basis a.state at
   pub target : a.target ≡ Some link
   pub target' : (left_of next).target ≡ Some link'
-  pub passes : Passes (told a.client) (told (left_of next).client) (told link) (told link') (counts a.client) (counts (left_of next).client) a.state new pass
+  pub passes : Passes (told a.client) (told (left_of next).client) (told link) (told link') (counts a.client) (counts (left_of next).client) (prelude_of a.state) a.state new pass
 
 -- what such a turn did
 abbrev pub pass_acts : {L : Type 0} {basis : Basis} (told : L → Told) (counts : L → Counts) (a : Assoc L) (next : Next L) (pass : Pass) → RelayTurn told counts basis a next pass → Acts
@@ -172,15 +172,15 @@ no-full false false h = (refl, refl)
 pub relay-turns : {L : Type 0} (told : L → Told) (counts : L → Counts) (stands : List Line → List StopBy → Type 0)
     (users : List User) (pubs : List Config) (generation : ℕ) (config : Config) (cap : ℕ) (h : List Line) (marks : List StopBy) (now : ℕ) (net : NetTold)
     (a : Assoc L) (next : Next L) (pass : Pass) (k : RelayTurn told counts (socks users pubs) a next pass)
-    (fault : Option Object) (unwritten : Bool) (outer : Outer) (cause at_close : Option Cause) (done : Bool) (h' : List Line) (marks' : List StopBy)
+    (fault : Option Object) (unwritten : Bool) (outer : Outer) (cause at_close : Option Cause) (done : Bool) (h' : List Line) (marks' : List StopBy) → is_login_failed cause ≡ false
     → fault_of pass ≡ fault → unwritten_of pass ≡ unwritten → IsDesk outer
     → ((worker : ℕ) → turn (context users pubs generation config cap h marks)
     (event_of worker a.state.number now (record (pass_acts told counts a next pass k) { fault = fault; unwritten = unwritten; outer = outer }) (mark_of next)) a.state
     ≡ Some (record { left = record (pass_leaves told counts a next pass k cause) { at_close = at_close; done = done }; h = h'; marks = marks' }))
     → (left_of next).state ≡ record (pass_leaves told counts a next pass k cause) { at_close = at_close; done = done }
-    → stands h' marks' → GoesOn next
+    → stands h' marks' → GoesOn users next
     → Turns told counts stands (context users pubs generation config cap h marks) now net net a next
-relay-turns {L} told counts stands users pubs generation config cap h marks now net a next pass k fault unwritten outer cause at_close done h' marks' is_fault is_unwritten' desk lawful state desked goes = record {
+relay-turns {L} told counts stands users pubs generation config cap h marks now net a next pass k fault unwritten outer cause at_close done h' marks' sound' is_fault is_unwritten' desk lawful state desked goes = record {
   acts = acts;
   result = record { left = left; h = h'; marks = marks' };
   lawful = lawful;
@@ -244,7 +244,7 @@ relay-turns {L} told counts stands users pubs generation config cap h marks now 
   unfailing = λ fine fine_t. (sym is_fault ∙ fault-none _ _ _ _ (read_fine_c fine) (sound_fine_t fine_t) (read_fine_t fine_t) (sound_fine_c fine), sym is_unwritten' ∙ both-false _ _ (sound-written pass.gave_t (sound_fine_t fine_t)) (sound-written pass.gave_c (sound_fine_c fine)));
 }
   where
-    p : Passes (told a.client) (told (left_of next).client) (told k.link) (told k.link') (counts a.client) (counts (left_of next).client) a.state k.new pass
+    p : Passes (told a.client) (told (left_of next).client) (told k.link) (told k.link') (counts a.client) (counts (left_of next).client) (prelude_of a.state) a.state k.new pass
     p = k.passes
 
     s : Context
@@ -272,7 +272,7 @@ relay-turns {L} told counts stands users pubs generation config cap h marks now 
     read_none = sums-read a.state _ _ _ _ _ _ _ _ _ _ sums
 
     apart : a.state.shut_c && a.state.shut_t ≡ false
-    apart = (is-relayed a.state k.at k.begun.plain k.begun.reaches).dialled.apart
+    apart = (is-relayed users a.state k.at k.begun.plain k.begun.reaches).dialled.apart
 
     facts : RelayFacts s a.state
     facts = plain-relay-facts users pubs generation config cap h marks a.state k.at k.begun.plain k.begun.reaches k.begun.uncaused k.begun.direct
@@ -291,13 +291,13 @@ relay-turns {L} told counts stands users pubs generation config cap h marks now 
     began = began-same s a.state p.takes_c.part p.takes_t.part (p.takes_c.ends || a.state.end_c) (p.takes_t.ends || a.state.end_t) (granted a.state.decisions) facts ∙ facts.began
 
     owes_c : (a.state.sent_c ++ p.gives_c.part) ++ p.gives_c.rest ≡ owed_c left
-    owes_c = sent-c a.state k.at _ _ _ _ _ _ _ _ _ _ cause k.begun sums
+    owes_c = sent-c a.state k.at _ _ _ _ _ _ _ _ _ _ cause sound' k.begun sums
 
     owes_t : (a.state.sent_t ++ p.gives_t.part) ++ p.gives_t.rest ≡ owed_t left
     owes_t = sent-t a.state k.at _ _ _ _ _ _ _ _ _ _ cause k.begun sums
 
-    plain : IsPlainRecord (summed a.state p.takes_c.part p.takes_t.part p.gives_c.part p.gives_t.part p.takes_c.ends p.takes_t.ends false false cause)
-    plain = sums-carried a.state k.at _ _ _ _ _ _ _ _ _ _ cause k.begun read_both apart
+    plain : IsPlainRecord users (summed a.state p.takes_c.part p.takes_t.part p.gives_c.part p.gives_t.part p.takes_c.ends p.takes_t.ends false false cause)
+    plain = sums-carried a.state k.at _ _ _ _ _ _ _ _ _ _ cause sound' k.begun read_both apart
 
     tells : FaultTells fault (is_read pass.took_c) (is_sound pass.gave_t) (is_read pass.took_t) (is_sound pass.gave_c)
     tells = subst (λ (z : Option Object). FaultTells z (is_read pass.took_c) (is_sound pass.gave_t) (is_read pass.took_t) (is_sound pass.gave_c)) is_fault

@@ -66,12 +66,13 @@ pub closed-as : {L : Type 0} (stands : List Line → List StopBy → Type 0) (h 
     → Closed stands h marks cause b e → Closed stands h marks cause (with_state b s) e
 closed-as stands h marks cause b e s is k = subst (λ (r : Record). Closed stands h marks cause (with_state b r) e) is k
 
-due-by : (a b c d : Bool) → (a ≡ true) ⊎ (c ≡ true) → a || b || c || d ≡ true
+due-by : (a b c d : Bool) → (a ≡ true) ⊎ ((b ≡ true) ⊎ (c ≡ true)) → a || b || c || d ≡ true
 due-by true b c d h = refl
 due-by false true c d h = refl
 due-by false false true d h = refl
 due-by false false false d (inl h) = absurd (cc)
-due-by false false false d (inr h) = absurd (cc)
+due-by false false false d (inr (inl h)) = absurd (cc)
+due-by false false false d (inr (inr h)) = absurd (cc)
 
 -- what a turn that closes has taken and sent, and why it closes
 pub record ClosesTalk {L : Type 0} (told : L → Told) (counts : L → Counts) (stands : List Line → List StopBy → Type 0) (t : Hearing) (a b : Assoc L) (e : Ended L)
@@ -94,7 +95,7 @@ pub record ClosesTalk {L : Type 0} (told : L → Told) (counts : L → Counts) (
   pub fits : fault_fits (basis_of t) fault unwritten behind ≡ true
   pub rest : List ℕ
   pub owed' : sent ++ rest ≡ owed_to_client (basis_of t) (caused t t.sent ends (Some cause))
-  pub due : (nothing_pending (basis_of t) (caused t sent ends (Some cause)) ≡ true) ⊎ (is_quiet (Some cause) ≡ true)
+  pub due : (nothing_pending (basis_of t) (caused t sent ends (Some cause)) ≡ true) ⊎ ((unwritten ≡ true) ⊎ (is_quiet (Some cause) ≡ true))
   pub at_end : ends ≡ true → IsAtEnd (told b.client)
   pub first : GivesFirst (told b.client)
   pub idle_c : idle ≡ true → IsIdle (told b.client) × Rose (counts a.client).idle_reads (counts b.client).idle_reads

@@ -101,7 +101,7 @@ pub record Talked {L : Type 0} (told : L → Told) (counts : L → Counts) (stan
   pub lawful : (worker : ℕ) → turn (context_of t) (talk_event t worker now (talk_acts t.x ends desk (length y) idle full fault unwritten) (mark_of next)) (before t) ≡ Some result
   pub state' : (left_of next).state ≡ result.left
   pub desk' : stands result.h result.marks
-  pub goes_on : GoesOn next
+  pub goes_on : GoesOn t.users next
   pub direct' : GoesDirect (basis_of t) (result.left).decisions
   pub c' : (result.left).c ≡ t.c ++ t.x
   pub sent' : (result.left).sent_c ≡ t.sent ++ y

@@ -11,7 +11,7 @@ use Rattle.assoc_core.specs.declared.carry.Take.{Take}
 use Rattle.assoc_core.specs.declared.carry.Give.{Give}
 use Rattle.assoc_core.specs.declared.relay.Pass.{Pass}
 use Rattle.assoc_core.specs.declared.relay.Side.{Side}
-use Rattle.assoc_core.specs.Plain.{prelude, owed_c}
+use Rattle.assoc_core.specs.Plain.{owed_c}
 use Rattle.assoc_core.specs.Stands.{EndsBehind, GivesFirst}
 use Rattle.assoc_core.specs.Turns.{IsIdle, IsFull}
 
@@ -84,7 +84,7 @@ is_sound _ = true
 
 -- The client is read, then the target is written and shut; the target is read where no call on it failed; the client is
 -- written, and shut where the target has ended. Where the client's read failed nothing more is done.
-pub record Passes (client client' target target' : Told) (counts counts' : Counts) (old new : Record) (pass : Pass) : Type 0 where
+pub record Passes (client client' target target' : Told) (counts counts' : Counts) (prelude : ℕ) (old new : Record) (pass : Pass) : Type 0 where
   pub between_c : Told
   pub between_t : Told
   pub counts_c : Counts

@@ -5,7 +5,7 @@ use Rattle.net_ends.specs.Told.{Told}
 use Rattle.socks_machine.specs.declared.record.Record.{Record}
 use Rattle.assoc_core.specs.declared.carry.Give.{Give}
 use Rattle.assoc_core.specs.Carrying.{GivesPart}
-use Rattle.assoc_core.specs.Plain.{prelude, owed_c}
+use Rattle.assoc_core.specs.Plain.{owed_c, prelude_of}
 
 -- what is pending was sent to the client
 pub record SendsClient (old new : Told) (counts counts' : Counts) (before after : Record) (give : Give) : Type 0 where
@@ -16,7 +16,7 @@ pub record SendsClient (old new : Told) (counts counts' : Counts) (before after 
 pub record SendsLink (old new : Told) (before after : Record) (give : Give) : Type 0 where
   pub counts : Counts
   pub counts' : Counts
-  pub gives : GivesPart old new counts counts' before.sent_t after.sent_t (drop (length before.sent_t) (drop prelude before.c)) true false before.shut_t after.shut_t give
+  pub gives : GivesPart old new counts counts' before.sent_t after.sent_t (drop (length before.sent_t) (drop (prelude_of before) before.c)) true false before.shut_t after.shut_t give
   pub is : after ≡ record before { sent_t = after.sent_t; shut_t = after.shut_t }
 
 abbrev pub SendsTarget : {L : Type 0} → (L → Told) → Option L → Option L → Record → Record → Give → Type 0

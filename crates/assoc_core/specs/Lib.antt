@@ -6,7 +6,6 @@ pub mod Granting
 pub mod Hearing
 pub mod Lines
 pub mod Plain
-pub mod Preludes
 pub mod Reaching
 pub mod Reads
 pub mod Sending

@@ -1,39 +1,67 @@
--- The records of the first path: no login, no name, no datagrams; and what they owe, in closed form, where no proxy is used.
-use Rattle.std.specs.Prelude.{ℕ, ◌≡◌, Bool, true, false, ◌&&◌, ◌==◌, Option, Some, None, List, [], ◌∷◌, ◌++◌, drop, is_some}
+-- The records that are served: a CONNECT to an address by its number, and no datagrams; and what they owe, in closed form,
+-- where no proxy is used.
+use Rattle.std.specs.Prelude.{ℕ, ◌≡◌, Bool, true, false, ◌&&◌, not, ◌==◌, if◌then◌else◌, Option, Some, None, option_map, List, [], ◌∷◌, ◌++◌, drop, is_some}
 use mathlib.Core.List.{IsPrefix}
 use Rattle.addr_pattern.specs.declared.endpoint.Endpoint.{Endpoint}
 use Rattle.conf_model.specs.declared.protocol.Command.{Command}
-use Rattle.conf_model.specs.declared.protocol.Version.{Version}
-use Rattle.conf_model.specs.Handshake.{version_of}
+use Rattle.conf_model.specs.declared.protocol.Method.{Method}
+use Rattle.conf_model.specs.declared.user.User.{User}
+use Rattle.conf_model.specs.Handshake.{Request, Split, split, offered, login_place, version_of}
 use Rattle.rule_list.specs.declared.facts.Facts.{Facts}
 use Rattle.socks_machine.specs.declared.cause.Cause.{Cause}
 use Rattle.socks_machine.specs.declared.record.Chosen.{Chosen}
 use Rattle.socks_machine.specs.declared.record.Decision.{Decision}
 use Rattle.socks_machine.specs.declared.record.Record.{Record}
 use Rattle.socks_machine.specs.Decisions.{reached_at}
-use Rattle.socks_machine.specs.Replies.{RefusedAt, refusal}
-use Rattle.socks_machine.specs.Served.{is_served_input, is_whole_input}
-use Rattle.socks_machine.specs.Socks.{chosen_reply, success}
+use Rattle.socks_machine.specs.Replies.{RefusedAt, refusal, choose}
+use Rattle.socks_machine.specs.Inputs.{is_served_split}
+use Rattle.socks_machine.specs.Socks.{chosen_reply, passed_reply, is_in_login, success}
 use Rattle.socks_machine.specs.Step.{fresh}
+use Rattle.socks_machine.specs.View.{asks_login}
+use Rattle.handshake_core.specs.Lengths.{prelude_end}
 
--- the length of the greeting and of the request
-abbrev pub prelude : ℕ
-prelude = 13
+-- ---- the client's input
 
--- a greeting of three bytes is whole
-abbrev pub is_greeted : List ℕ → Bool
-is_greeted (a ∷ b ∷ c ∷ bytes) = a == 5
-is_greeted _ = false
+abbrev pub split_by : List User → Option Chosen → List ℕ → Split
+split_by users chosen c = split users (option_map (λ c. c.method) chosen) c
 
--- "no login" was answered exactly where the greeting is whole
+-- how far the client's input has come
+abbrev pub split_in : List User → Record → Split
+split_in users r = split_by users r.chosen r.c
+
+-- a method with this code, if there is one
+abbrev pub method_alone : ℕ → List Method
+method_alone code = if code == 0 then Method.NoAuth ∷ [] else (if code == 2 then Method.Username ∷ [] else [])
+
+-- a method was answered exactly where the greeting is whole; it was offered, or it is FF (RFC 1928, section 3)
 abbrev pub HasChosen : List ℕ → Option Chosen → Type 0
-HasChosen c None = is_greeted c ≡ false
-HasChosen c (Some chosen) = (chosen.method ≡ 0) × (is_greeted c ≡ true)
+HasChosen c None = offered c ≡ None
+HasChosen c (Some chosen) = (offers : List ℕ) × (offered c ≡ Some offers) × (choose (method_alone chosen.method) offers ≡ chosen.method)
+
+-- the length of the prelude, once it is whole
+abbrev pub prelude_of : Record → ℕ
+prelude_of r = prelude_end (option_map (λ c. c.method) r.chosen) r.c
+
+abbrev pub is_login_failed : Option Cause → Bool
+is_login_failed (Some Cause.LoginFailed) = true
+is_login_failed _ = false
+
+abbrev pub is_failed_split : Split → Bool
+is_failed_split Split.LoginFailed = true
+is_failed_split _ = false
 
 -- ---- what is owed
 
-abbrev pub no_login : RefusedAt
-no_login = record { in_login = false; proxy5 = false; granting_udp = false }
+-- a login was asked for, is whole, and didn't fail
+abbrev pub has_passed : Option Chosen → List ℕ → Option Cause → Bool
+has_passed chosen c cause = asks_login chosen && (is_some (login_place c) && not (is_login_failed cause))
+
+-- the answers to the greeting and to the login
+abbrev pub opening_owed : List ℕ → Option Chosen → Option Cause → List ℕ
+opening_owed c chosen cause = chosen_reply chosen ++ passed_reply (has_passed chosen c cause)
+
+abbrev pub refused_at : Option Chosen → List ℕ → Cause → RefusedAt
+refused_at chosen c cause = record { in_login = is_in_login chosen c cause; proxy5 = false; granting_udp = false }
 
 abbrev pub success_reply : List ℕ → Option Endpoint → List ℕ
 success_reply c None = []
@@ -43,24 +71,24 @@ abbrev pub payload_to_client : List ℕ → Option Endpoint → List ℕ
 payload_to_client t None = []
 payload_to_client t (Some at) = t
 
-abbrev pub refusal_owed : List ℕ → Option Endpoint → Option Cause → List ℕ
-refusal_owed c None (Some cause) = refusal (version_of c) no_login cause
-refusal_owed c _ _ = []
+abbrev pub refusal_owed : List ℕ → Option Chosen → Option Endpoint → Option Cause → List ℕ
+refusal_owed c chosen None (Some cause) = refusal (version_of c) (refused_at chosen c cause) cause
+refusal_owed c chosen _ _ = []
 
--- the method's reply, the reply of success, the target's payload, and a refusal before the relay
+-- the answers to the greeting and the login, the reply of success, the target's payload, and a refusal before the relay
 abbrev pub plain_to_client : List ℕ → List ℕ → Option Chosen → Option Endpoint → Option Cause → List ℕ
-plain_to_client c t chosen at cause = chosen_reply chosen ++ (success_reply c at ++ (payload_to_client t at ++ refusal_owed c at cause))
+plain_to_client c t chosen at cause = opening_owed c chosen cause ++ (success_reply c at ++ (payload_to_client t at ++ refusal_owed c chosen at cause))
 
--- the client's bytes behind the prelude, once the target is reached
-abbrev pub plain_to_target : List ℕ → Option Endpoint → List ℕ
-plain_to_target c None = []
-plain_to_target c (Some at) = drop prelude c
+-- the client's bytes behind a prelude of this length, once the target is reached
+abbrev pub plain_to_target : ℕ → List ℕ → Option Endpoint → List ℕ
+plain_to_target n c None = []
+plain_to_target n c (Some at) = drop n c
 
 abbrev pub owed_c : Record → List ℕ
 owed_c r = plain_to_client r.c r.t r.chosen (reached_at r.decisions) r.cause
 
 abbrev pub owed_t : Record → List ℕ
-owed_t r = plain_to_target r.c (reached_at r.decisions)
+owed_t r = plain_to_target (prelude_of r) r.c (reached_at r.decisions)
 
 -- ---- how far a record has come
 
@@ -73,23 +101,27 @@ pub record Untargeted (r : Record) : Type 0 where
   pub shut_t : r.shut_t ≡ false
 
 -- a client that was let in and has no grant yet
-pub record Talking (r : Record) : Type 0 where
+pub record Talking (users : List User) (r : Record) : Type 0 where
   pub untargeted : Untargeted r
-  pub talks : r.cause ≡ None → (r.end_c ≡ false) × (is_whole_input r.c ≡ false)
+  pub talks : r.cause ≡ None → (r.end_c ≡ false) × (split_in users r ≡ Split.More)
+
+-- the prelude is whole
+pub record HasAsked (users : List User) (r : Record) : Type 0 where
+  pub request : Request
+  pub len : ℕ
+  pub whole : split_in users r ≡ Split.Whole request len
 
 -- a request that was judged
-pub record Judged (r : Record) (facts : Facts) (refused : Option Cause) : Type 0 where
+pub record Judged (users : List User) (r : Record) (facts : Facts) (refused : Option Cause) : Type 0 where
   pub untargeted : Untargeted r
-  pub whole : is_whole_input r.c ≡ true
-  pub version : version_of r.c ≡ Some Version.V5
+  pub asked : HasAsked users r
   pub command : facts.command ≡ Command.Connect
   pub unended : r.end_c ≡ false
   pub stands : is_some refused ≡ true → is_some r.cause ≡ true
 
 -- a destination that was dialled
-pub record Dialled (r : Record) (facts : Facts) (at : Option Endpoint) : Type 0 where
-  pub whole : is_whole_input r.c ≡ true
-  pub version : version_of r.c ≡ Some Version.V5
+pub record Dialled (users : List User) (r : Record) (facts : Facts) (at : Option Endpoint) : Type 0 where
+  pub asked : HasAsked users r
   pub command : facts.command ≡ Command.Connect
   pub unreached : at ≡ None → Untargeted r
   pub failed : at ≡ None → is_some r.cause ≡ true
@@ -97,21 +129,22 @@ pub record Dialled (r : Record) (facts : Facts) (at : Option Endpoint) : Type 0 
   pub shut_c : r.shut_c ≡ true → (r.end_t ≡ true) × (r.sent_c ≡ owed_c r)
   pub shut_t : r.shut_t ≡ true → (r.end_c ≡ true) × (r.sent_t ≡ owed_t r)
 
-abbrev pub HasDecided : Record → List Decision → Type 0
-HasDecided r [] = r ≡ fresh r.number r.peer r.local r.since
-HasDecided r (Decision.Opened g rule None ∷ []) = Talking r
-HasDecided r (Decision.Opened g rule None ∷ Decision.Granted g' facts verdict route refused ∷ []) = Judged r facts refused
-HasDecided r (Decision.Opened g rule None ∷ Decision.Granted g' facts verdict route None ∷ Decision.Reached to at ∷ []) = Dialled r facts at
-HasDecided r _ = ⊥
+abbrev pub HasDecided : List User → Record → List Decision → Type 0
+HasDecided users r [] = r ≡ fresh r.number r.peer r.local r.since
+HasDecided users r (Decision.Opened g rule None ∷ []) = Talking users r
+HasDecided users r (Decision.Opened g rule None ∷ Decision.Granted g' facts verdict route refused ∷ []) = Judged users r facts refused
+HasDecided users r (Decision.Opened g rule None ∷ Decision.Granted g' facts verdict route None ∷ Decision.Reached to at ∷ []) = Dialled users r facts at
+HasDecided users r _ = ⊥
 
--- a record of the first path that hasn't ended
-pub record IsPlainRecord (r : Record) : Type 0 where
+-- a record that is served and hasn't ended
+pub record IsPlainRecord (users : List User) (r : Record) : Type 0 where
   pub undone : r.done ≡ false
   pub unclosed : r.at_close ≡ None
   pub grams : r.grams ≡ []
   pub sent_u : r.sent_u ≡ []
-  pub served : is_served_input r.c ≡ true
+  pub served : is_served_split (split_in users r) ≡ true
   pub chosen' : HasChosen r.c r.chosen
-  pub decided : HasDecided r r.decisions
+  pub failed : is_login_failed r.cause ≡ is_failed_split (split_in users r)
+  pub decided : HasDecided users r r.decisions
   pub sent_c : IsPrefix r.sent_c (owed_c r)
   pub sent_t : IsPrefix r.sent_t (owed_t r)

@@ -3,11 +3,12 @@ use Rattle.std.specs.Prelude.{ℕ, ◌≡◌, ◌≤◌, Bool, true, false, Opti
 use mathlib.Core.List.{IsPrefix}
 use Rattle.net_ends.specs.Told.{Told, Arrival}
 use Rattle.addr_pattern.specs.declared.endpoint.Endpoint.{Endpoint}
+use Rattle.conf_model.specs.declared.user.User.{User}
 use Rattle.socks_machine.specs.declared.record.Decision.{Decision}
 use Rattle.socks_machine.specs.declared.record.Record.{Record}
 use Rattle.socks_machine.specs.Basis.{Basis}
 use Rattle.socks_machine.specs.Decisions.{granted, reached_at}
-use Rattle.socks_machine.specs.Served.{is_served_input}
+use Rattle.socks_machine.specs.Inputs.{is_served_input}
 use Rattle.socks_machine.specs.View.{proxy_of_grant}
 use Rattle.assoc_core.specs.declared.assoc.Assoc.{Assoc}
 use Rattle.assoc_core.specs.Plain.{IsPlainRecord}
@@ -32,13 +33,13 @@ abbrev pub HoldsTarget : {L : Type 0} → (L → Told) → Record → Option L �
 HoldsTarget told r None = (reached_at r.decisions ≡ None) × (r.t ≡ []) × (r.sent_t ≡ []) × (r.end_t ≡ false)
 HoldsTarget told r (Some link) = ((at : Endpoint) × (reached_at r.decisions ≡ Some at)) × Holds (told link) r.t r.sent_t r.end_t r.shut_t × EndsBehind (told link) × GivesFirst (told link)
 
--- it tells what has arrived, and that is of the form which the first path serves
-pub record TellsServed (told : Told) : Type 0 where
+-- it tells what has arrived, and that is served
+pub record TellsServed (users : List User) (told : Told) : Type 0 where
   pub arrival : Arrival
   pub given : List ℕ
   pub arrived' : told.arrived ≡ Some arrival
   pub given' : told.given ≡ Some given
-  pub served : is_served_input arrival.bytes ≡ true
+  pub served : is_served_input users arrival.bytes ≡ true
 
 -- the grant, where there is one, is of a published configuration, and the route that it keeps leads to no proxy there
 pub record GoesDirect (basis : Basis) (ds : List Decision) : Type 0 where
@@ -47,7 +48,7 @@ pub record GoesDirect (basis : Basis) (ds : List Decision) : Type 0 where
 
 -- the association stands for its record
 pub record Stands {L : Type 0} (told : L → Told) (basis : Basis) (a : Assoc L) : Type 0 where
-  pub plain : IsPlainRecord a.state
+  pub plain : IsPlainRecord basis.users a.state
   pub direct : GoesDirect basis (a.state).decisions
   pub client : Holds (told a.client) a.state.c a.state.sent_c a.state.end_c a.state.shut_c
   pub client_ends : EndsBehind (told a.client)

@@ -1,4 +1,4 @@
--- What one turn of the first path comes to.
+-- What one turn comes to.
 use Rattle.std.specs.Prelude.{ℕ, ◌+◌, ◌≡◌, ◌<◌, ◌≤◌, Bool, true, false, Option, Some, None, List, [], ◌∷◌, ◌++◌, length, is_some}
 use Rattle.conf_model.specs.declared.config.Config.{Config}
 use Rattle.conf_model.specs.declared.protocol.Command.{Command}
@@ -29,7 +29,7 @@ use Rattle.assoc_core.specs.Stands.{GoesDirect, Holds, EndsBehind, GivesFirst, H
 
 -- ---- the event
 
--- what a turn of the first path does
+-- what a turn does
 pub record Acts : Type 0 where
   pub c : List ℕ
   pub t : List ℕ
@@ -93,11 +93,11 @@ left_of (Next.Wait a) = a
 left_of (Next.Again a) = a
 left_of (Next.Done e) = record { state = e.state; client = e.client; target = e.target }
 
--- an association that goes on stands for a record of the first path
-abbrev pub GoesOn : {L : Type 0} → Next L → Type 0
-GoesOn (Next.Wait a) = IsPlainRecord a.state
-GoesOn (Next.Again a) = IsPlainRecord a.state
-GoesOn (Next.Done e) = (e.state.done ≡ true) × (is_udp e.state ≡ false) × (e.state.sent_u ≡ [])
+-- an association that goes on stands for a record that is served
+abbrev pub GoesOn : {L : Type 0} → List User → Next L → Type 0
+GoesOn users (Next.Wait a) = IsPlainRecord users a.state
+GoesOn users (Next.Again a) = IsPlainRecord users a.state
+GoesOn users (Next.Done e) = (e.state.done ≡ true) × (is_udp e.state ≡ false) × (e.state.sent_u ≡ [])
 
 -- ---- the outside
 
@@ -197,7 +197,7 @@ pub record Turns {L : Type 0} (told : L → Told) (counts : L → Counts) (stand
   pub state' : (left_of next).state ≡ result.left
   pub desk : stands result.h result.marks
   -- the association
-  pub goes_on : GoesOn next
+  pub goes_on : GoesOn (s.basis).users next
   pub direct : GoesDirect s.basis (result.left).decisions
   pub c : result.left.c ≡ a.state.c ++ acts.c
   pub t : result.left.t ≡ a.state.t ++ acts.t

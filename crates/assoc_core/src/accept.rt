@@ -46,7 +46,7 @@ impl<L: Link + Drop> Assoc<L> {
     ) -> Result<Next<L>, AllocError>
         requires { FitsNumbers config.now }
         ensures cap { K.cap desk.new ≡ K.cap desk.old }
-        ensures turns { IfOk result (λ next. (users : List User) (pubs : List Config) (h : List Line) (marks : List StopBy) (net : NetTold) (now : ℕ) → K.stands desk.old h marks → Stands L.told (socks users pubs) self → TellsServed (L.told self.client) → self.state.since ≡ now → self.state.decisions ≡ [] → Turns L.told L.counts (K.stands desk.new) (context users pubs generation config.now (K.cap desk.old) h marks) now net net self next) }
+        ensures turns { IfOk result (λ next. (users : List User) (pubs : List Config) (h : List Line) (marks : List StopBy) (net : NetTold) (now : ℕ) → K.stands desk.old h marks → Stands L.told (socks users pubs) self → TellsServed users (L.told self.client) → self.state.since ≡ now → self.state.decisions ≡ [] → Turns L.told L.counts (K.stands desk.new) (context users pubs generation config.now (K.cap desk.old) h marks) now net net self next) }
     {
         let line = line_of(&self.state, generation, config);
         let rule = line.rule;

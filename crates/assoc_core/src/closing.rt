@@ -13,7 +13,7 @@ ghost use Rattle.assoc_core.specs.Turns.{Turns, context};
 
 use crate::assoc::{Assoc, Next};
 use crate::carry::{Give, give_to};
-use crate::prelude::PRELUDE;
+use crate::prelude::prelude_in;
 use crate::relay::{behind, is_sound};
 use crate::replies::owed_to_client;
 use net_ends::Link;
@@ -52,7 +52,8 @@ fn send_to_target<L: Link + Drop>(
     let Some(link) = target else {
         return Ok(Give::Held);
     };
-    let pending = behind(behind(state.c.as_slice(), PRELUDE), state.sent_t.len());
+    let prelude = prelude_in(state);
+    let pending = behind(behind(state.c.as_slice(), prelude), state.sent_t.len());
     give_to(
         alloc,
         link,

@@ -3,29 +3,41 @@ ghost use Rattle.rule_list.specs.Numbers.{FitsNumbers};
 ghost use Rattle.socks_machine.specs.declared.lines.Line.{Line};
 ghost use Rattle.socks_machine.specs.declared.cause.StopBy.{StopBy};
 ghost use Rattle.socks_machine.specs.Calls.{client_rule_of as client_rule_in, socks_rule_of as socks_rule_in};
-ghost use Rattle.assoc_core.specs.Granting.{AsksGrant, connect_facts, request_line};
+ghost use Rattle.addr_pattern.specs.declared.host.Host.TheVariants.{Addr as ByAddr};
+ghost use Rattle.handshake_core.specs.Answers.{request_in};
+ghost use Rattle.socks_machine.specs.Calls.{grant_facts};
+ghost use Rattle.assoc_core.specs.Granting.{AsksGrant, request_line};
 
 use crate::refusals::{blocked, first_cause, refusal_full};
-use addr_pattern::Endpoint;
-use conf_model::{Command, Config, Method, Version};
+use addr_pattern::{Addr, Endpoint};
+use conf_model::Config;
+use handshake_core::Request;
 use rule_list::{Facts, Verdict, client_max, first_route, judge, socks_max};
 use session_desk::DeskCall;
 use socks_machine::{Decision, GrantLine, Record};
 use std::alloc::AllocError;
 
-/// What the rules are asked of a CONNECT of SOCKS 5 without a login.
-fn facts_of(state: &Record, to: Endpoint) -> Facts
-    ensures { result ≡ connect_facts state.now to }
+/// What the rules are asked of a request to an address.
+fn facts_of(state: &Record, request: &Request, addr: Addr) -> Facts
+    requires { request.now.host ≡ ByAddr addr }
+    ensures { result ≡ grant_facts state.now (request_in request.now) }
 {
+    let user = match &request.user {
+        None => None,
+        Some(user) => Some(user.copy()),
+    };
     Facts {
         peer: state.peer,
         local: state.local,
-        command: Command::Connect,
-        version: Version::V5,
-        method: Method::NoAuth,
-        user: None,
+        command: request.command,
+        version: request.version,
+        method: request.method,
+        user,
         from: state.peer,
-        to,
+        to: Endpoint {
+            addr,
+            port: request.port,
+        },
         name: None,
     }
 }
@@ -54,11 +66,18 @@ fn socks_rule_of(verdict: Verdict) -> Option<u32>
 }
 
 /// The line of a request that was judged.
-fn line_of(state: &Record, generation: u64, config: &Config, to: Endpoint) -> GrantLine
-    requires { FitsNumbers config.now }
-    ensures { result ≡ request_line generation config.now state.now to }
+fn line_of(
+    state: &Record,
+    generation: u64,
+    config: &Config,
+    request: &Request,
+    addr: Addr,
+) -> GrantLine
+    requires fits { FitsNumbers config.now }
+    requires host { request.now.host ≡ ByAddr addr }
+    ensures { result ≡ request_line generation config.now state.now (request_in request.now) }
 {
-    let facts = facts_of(state, to);
+    let facts = facts_of(state, request, addr);
     let verdict = judge(config, &facts);
     GrantLine {
         number: state.number,
@@ -70,21 +89,23 @@ fn line_of(state: &Record, generation: u64, config: &Config, to: Endpoint) -> Gr
     }
 }
 
-/// Judges a request to this destination, asks the desk, and decides by both.
+/// Judges a request to this address, asks the desk, and decides by both.
 pub fn ask_grant<K: DeskCall>(
     state: &mut Record,
     generation: u64,
     config: &Config,
     desk: &mut K,
-    to: Endpoint,
+    request: &Request,
+    addr: Addr,
 ) -> Result<(), AllocError>
-    requires { FitsNumbers config.now }
+    requires fits { FitsNumbers config.now }
+    requires host { request.now.host ≡ ByAddr addr }
     ensures cap { K.cap desk.new ≡ K.cap desk.old }
-    ensures asks { OnOk result ((h : List Line) (marks : List StopBy) → K.stands desk.old h marks → AsksGrant (K.stands desk.new) h marks generation config.now to state.old state.new) }
+    ensures asks { OnOk result ((h : List Line) (marks : List StopBy) → K.stands desk.old h marks → AsksGrant (K.stands desk.new) h marks generation config.now (request_in request.now) state.old state.new) }
 {
-    let line = line_of(state, generation, config, to);
+    let line = line_of(state, generation, config, request, addr);
     let verdict = line.verdict;
-    let facts = facts_of(state, to);
+    let facts = facts_of(state, request, addr);
     let route = first_route(config, &facts);
     state.decisions.push(Decision::Granted {
         generation,
@@ -94,7 +115,7 @@ pub fn ask_grant<K: DeskCall>(
         refused: None,
     })?;
     let refused = refusal_full(generation, desk.grant(&line), blocked(generation, verdict));
-    let facts = facts_of(state, to);
+    let facts = facts_of(state, request, addr);
     state.decisions.set_last(Decision::Granted {
         generation,
         facts,

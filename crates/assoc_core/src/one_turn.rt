@@ -1,6 +1,5 @@
 ghost use Rattle.std.specs.Prelude.{ℕ, ◌≡◌, Some, List as Items, IfOk};
 ghost use Rattle.conf_model.specs.declared.config.Config.{Config as SomeConfig};
-ghost use Rattle.conf_model.specs.declared.user.User.{User};
 ghost use Rattle.conf_model.specs.Plain.{IsPlain};
 ghost use Rattle.rule_list.specs.Numbers.{FitsNumbers};
 ghost use Rattle.rule_list.specs.Rules.{numbered};
@@ -18,6 +17,7 @@ use net_ends::Net;
 use session_desk::DeskCall;
 use socks_machine::Decision;
 use std::alloc::{AllocError, Global};
+use user_login::Users;
 
 /// How far an association has come that has no cause yet.
 #[derive(Clone, Copy, Debug, PartialEq, Eq)]
@@ -39,8 +39,8 @@ fn course_of(decisions: &[Decision]) -> Course
     }
 }
 
-/// One turn of a worker on an association, with the configuration of the generation that it has seen; `now` is in
-/// seconds. An association that stands for a record makes one lawful turn of the machine on it, and what is answered
+/// One turn of a worker on an association, with the configuration of the generation that it has seen and the users who may
+/// log in; `now` is in seconds. An association that stands for a record makes one lawful turn of the machine on it, and what is answered
 /// stands for the record which that leaves. Where memory is refused it is `Err`, and nothing is said of the association
 /// then.
 #[tactic(none)]
@@ -49,6 +49,7 @@ pub fn turn<N: Net, K: DeskCall>(
     a: Assoc<N::Link>,
     generation: u64,
     config: &Config,
+    users: &Users,
     desk: &mut K,
     net: &mut N,
     now: u64,
@@ -57,16 +58,16 @@ where
     N::Link: Drop,
     requires { FitsNumbers config.now }
     ensures cap { IfOk result (λ next. K.cap desk.new ≡ K.cap desk.old) }
-    ensures turns { IfOk result (λ next. (users : Items User) (pubs : Items SomeConfig) (h : Items Line) (marks : Items StopBy)
-        → K.stands desk.old h marks → Stands N.Link.told (socks users pubs) a → TellsServed (N.Link.told a.client) → numbered pubs generation ≡ Some config.now → IsPlain config.now → a.state.since ≡ now
-        → Turns N.Link.told N.Link.counts (K.stands desk.new) (context users pubs generation config.now (K.cap desk.old) h marks) now (N.told net.old) (N.told net.new) a next) }
+    ensures turns { IfOk result (λ next. (pubs : Items SomeConfig) (h : Items Line) (marks : Items StopBy)
+        → K.stands desk.old h marks → Stands N.Link.told (socks users.now pubs) a → TellsServed users.now (N.Link.told a.client) → numbered pubs generation ≡ Some config.now → IsPlain config.now → a.state.since ≡ now
+        → Turns N.Link.told N.Link.counts (K.stands desk.new) (context users.now pubs generation config.now (K.cap desk.old) h marks) now (N.told net.old) (N.told net.new) a next) }
 {
     if let Some(cause) = a.state.cause {
         return a.closing(alloc, desk, cause);
     }
     match course_of(a.state.decisions.as_slice()) {
         Course::Accept => a.accept(generation, config, desk),
-        Course::Talk => a.talk(alloc, generation, config, desk),
+        Course::Talk => a.talk(alloc, generation, config, users, desk),
         Course::Reach => reach(a, alloc, now, net),
         Course::Relay => a.relay(alloc, desk),
     }

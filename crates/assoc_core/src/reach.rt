@@ -11,12 +11,13 @@ ghost use Rattle.socks_machine.specs.declared.record.Decision.{Decision};
 ghost use Rattle.socks_machine.specs.Decisions.{granted};
 ghost use Rattle.socks_machine.specs.Socks.{socks};
 ghost use Rattle.assoc_core.specs.Reaching.{HasDialled, IsNewLink, HasGreeted, SameDesk, cause_of};
+ghost use Rattle.assoc_core.specs.Plain.{prelude_of};
 ghost use Rattle.assoc_core.specs.Sending.{Sends};
 ghost use Rattle.assoc_core.specs.Stands.{Stands};
 ghost use Rattle.assoc_core.specs.Turns.{Turns, context};
 
 use crate::assoc::{Assoc, Next};
-use crate::prelude::PRELUDE;
+use crate::prelude::prelude_in;
 use crate::refusals::first_cause;
 use crate::relay::behind;
 use crate::send::{Sent, send_pending};
@@ -43,10 +44,11 @@ fn send_to_target<L: Link>(
     state: &mut Record,
     target: &mut L,
 ) -> Result<Sent, AllocError>
-    ensures sends { IfOk result (λ outcome. Sends (L.told target.old) (L.told target.new) (L.counts target.old) (L.counts target.new) state.old.sent_t state.new.sent_t (drop (length state.old.sent_t) (drop 13 state.old.c)) outcome) }
+    ensures sends { IfOk result (λ outcome. Sends (L.told target.old) (L.told target.new) (L.counts target.old) (L.counts target.new) state.old.sent_t state.new.sent_t (drop (length state.old.sent_t) (drop (prelude_of state.old) state.old.c)) outcome) }
     ensures state { IfOk result (λ outcome. state.new ≡ record state.old { sent_t = state.new.sent_t }) }
 {
-    let pending = behind(behind(state.c.as_slice(), PRELUDE), state.sent_t.len());
+    let prelude = prelude_in(state);
+    let pending = behind(behind(state.c.as_slice(), prelude), state.sent_t.len());
     send_pending(alloc, target, &mut state.sent_t, pending)
 }
 

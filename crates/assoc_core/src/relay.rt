@@ -8,12 +8,13 @@ ghost use Rattle.socks_machine.specs.declared.lines.Line.{Line};
 ghost use Rattle.socks_machine.specs.Decisions.{reached_at as first_reached};
 ghost use Rattle.socks_machine.specs.Socks.{socks};
 ghost use Rattle.assoc_core.specs.Carrying.{Passes, has_ended as ended_by, is_sound as sound_by, fault_of as fault_in, object_of, has_pending, took_quantum as quantum_in, unwritten_of};
+ghost use Rattle.assoc_core.specs.Plain.{prelude_of};
 ghost use Rattle.assoc_core.specs.Stands.{Stands};
 ghost use Rattle.assoc_core.specs.Turns.{Turns, context};
 
 use crate::assoc::{Assoc, Next};
 use crate::carry::{Give, Take, give_to, take_from};
-use crate::prelude::PRELUDE;
+use crate::prelude::prelude_in;
 use crate::replies::owed_to_client;
 use net_ends::Link;
 use session_desk::DeskCall;
@@ -62,8 +63,9 @@ fn carry_both<L: Link>(
     client: &mut L,
     target: &mut L,
 ) -> Result<Pass, AllocError>
-    ensures { IfOk result (λ pass. Passes (L.told client.old) (L.told client.new) (L.told target.old) (L.told target.new) (L.counts client.old) (L.counts client.new) state.old state.new pass) }
+    ensures { IfOk result (λ pass. Passes (L.told client.old) (L.told client.new) (L.told target.old) (L.told target.new) (L.counts client.old) (L.counts client.new) (prelude_of state.old) state.old state.new pass) }
 {
+    let prelude = prelude_in(state);
     let took_c = take_from(alloc, client, &mut state.c, &mut state.end_c, true)?;
     if let Take::Failed = took_c {
         return Ok(Pass {
@@ -73,7 +75,7 @@ fn carry_both<L: Link>(
             gave_c: Give::Held,
         });
     }
-    let to_target = behind(behind(state.c.as_slice(), PRELUDE), state.sent_t.len());
+    let to_target = behind(behind(state.c.as_slice(), prelude), state.sent_t.len());
     let gave_t = give_to(
         alloc,
         target,

@@ -1,16 +1,18 @@
-ghost use Rattle.std.specs.Prelude.{◌≡◌, ◌∷◌, ◌++◌, ◌≤◌, IfOk, OnOk, length, drop};
+ghost use Rattle.std.specs.Prelude.{◌≡◌, ◌∷◌, ◌++◌, ◌≤◌, IfOk, OnOk, false, length, drop};
 ghost use Rattle.conf_model.specs.Grammar.{spelled_addr, spelled_endpoint};
 ghost use Rattle.conf_model.specs.declared.protocol.Command.{Command};
 ghost use Rattle.conf_model.specs.Handshake.{version_of as first_version};
 ghost use Rattle.socks_machine.specs.Decisions.{reached_at as first_reached};
 ghost use Rattle.socks_machine.specs.Replies.{refusal, failing_reply, answer_to as answer_due};
-ghost use Rattle.socks_machine.specs.Socks.{chosen_reply, success};
-ghost use Rattle.assoc_core.specs.Plain.{owed_c, no_login};
+ghost use Rattle.socks_machine.specs.Socks.{chosen_reply, passed_reply, is_in_login as in_login_by, success};
+ghost use Rattle.socks_machine.specs.View.{asks_login as login_is_asked};
+ghost use Rattle.assoc_core.specs.Plain.{owed_c, opening_owed, has_passed as passes, is_login_failed as fails_login, refused_at};
 ghost use Rattle.assoc_core.specs.Answered.{answer_of};
 
 use addr_pattern::{Addr, Endpoint};
 use conf_model::Version;
 use conf_text::Text;
+use handshake_core::{greeting_length, has_login};
 use socks_machine::{Cause, Chosen, Decision, Record};
 use std::alloc::{AllocError, Global};
 
@@ -44,6 +46,39 @@ pub fn reached_at(decisions: &[Decision]) -> Option<Endpoint>
     }
 }
 
+/// Whether a login was asked for (RFC 1928, section 3).
+fn asks_login(chosen: Option<Chosen>) -> bool
+    ensures { result ≡ login_is_asked chosen }
+{
+    match chosen {
+        None => false,
+        Some(chosen) => chosen.method == 2,
+    }
+}
+
+fn is_login_failed(cause: Option<Cause>) -> bool
+    ensures { result ≡ fails_login cause }
+{
+    matches!(cause, Some(Cause::LoginFailed))
+}
+
+/// Whether a login was asked for, is whole and didn't fail.
+fn has_passed(chosen: Option<Chosen>, c: &[u8], cause: Option<Cause>) -> bool
+    ensures { result ≡ passes chosen c.now cause }
+{
+    asks_login(chosen) && has_login(c) && !is_login_failed(cause)
+}
+
+/// Whether a byte that is bad stands where the login begins.
+fn is_in_login(chosen: Option<Chosen>, c: &[u8], cause: Cause) -> bool
+    ensures { result ≡ in_login_by chosen c.now cause }
+{
+    match cause {
+        Cause::BadVersion { at, .. } => asks_login(chosen) && at == greeting_length(c) as u64,
+        _ => false,
+    }
+}
+
 /// The answer to the greeting (RFC 1928, section 3).
 fn add_method_reply(owed: &mut Text, chosen: Option<Chosen>) -> Result<(), AllocError>
     ensures { OnOk result (owed.new ≡ owed.old ++ chosen_reply chosen) }
@@ -52,6 +87,22 @@ fn add_method_reply(owed: &mut Text, chosen: Option<Chosen>) -> Result<(), Alloc
         Some(chosen) if chosen.method != 255 => owed.add(&[5, chosen.method]),
         _ => Ok(()),
     }
+}
+
+/// The answers to the greeting and to the login (RFC 1928, section 3, and RFC 1929, section 2).
+fn add_opening(
+    owed: &mut Text,
+    c: &[u8],
+    chosen: Option<Chosen>,
+    cause: Option<Cause>,
+) -> Result<(), AllocError>
+    ensures { OnOk result (owed.new ≡ owed.old ++ opening_owed c.now chosen cause) }
+{
+    add_method_reply(owed, chosen)?;
+    if has_passed(chosen, c, cause) {
+        owed.add(&[1, 0])?;
+    }
+    Ok(())
 }
 
 /// Bytes with their type before them.
@@ -112,9 +163,9 @@ pub enum Reply {
     Silence,
 }
 
-/// The answer to each cause, where no login and no proxy is used (RFC 1928, section 6).
-fn answer_to(cause: Cause) -> Reply
-    ensures { answer_of result ≡ answer_due no_login cause }
+/// The answer to each cause, where no proxy is used (RFC 1928, section 6; RFC 1929, section 2, for a bad byte in the login).
+fn answer_to(in_login: bool, cause: Cause) -> Reply
+    ensures { answer_of result ≡ answer_due (record { in_login = in_login; proxy5 = false; granting_udp = false }) cause }
 {
     match cause {
         Cause::Denied { .. } | Cause::Full { .. } | Cause::WrongPeer { .. } => Reply::Code(2),
@@ -123,6 +174,7 @@ fn answer_to(cause: Cause) -> Reply
         Cause::Refused => Reply::Code(5),
         Cause::CommandUnsupported { .. } => Reply::Code(7),
         Cause::AtypUnsupported { .. } => Reply::Code(8),
+        Cause::BadVersion { .. } if in_login => Reply::Bytes(1, 1),
         Cause::BadVersion { .. }
         | Cause::BadRequest { .. }
         | Cause::Upstream { .. }
@@ -147,26 +199,31 @@ fn answer_to(cause: Cause) -> Reply
 }
 
 /// The refusal that a cause owes.
-fn add_refusal(owed: &mut Text, c: &[u8], cause: Cause) -> Result<(), AllocError>
-    ensures { OnOk result (owed.new ≡ owed.old ++ refusal (first_version c.now) no_login cause) }
+fn add_refusal(
+    owed: &mut Text,
+    c: &[u8],
+    chosen: Option<Chosen>,
+    cause: Cause,
+) -> Result<(), AllocError>
+    ensures { OnOk result (owed.new ≡ owed.old ++ refusal (first_version c.now) (refused_at chosen c.now cause) cause) }
 {
     let Some(version) = version_of(c) else {
         return Ok(());
     };
-    match answer_to(cause) {
+    match answer_to(is_in_login(chosen, c, cause), cause) {
         Reply::Code(code) => add_failing_reply(owed, version, code),
         Reply::Bytes(first, second) => owed.add(&[first, second]),
         Reply::Silence => Ok(()),
     }
 }
 
-/// All that is owed to the client from the beginning: the method's reply, the reply of success and the target's bytes, or
-/// a refusal.
+/// All that is owed to the client from the beginning: the answers to the greeting and the login, the reply of success and the
+/// target's bytes, or a refusal.
 pub fn owed_to_client(alloc: Global, r: &Record) -> Result<Text, AllocError>
     ensures { IfOk result (λ owed. owed ≡ owed_c r.now) }
 {
     let mut owed = Text::make(alloc);
-    add_method_reply(&mut owed, r.chosen)?;
+    add_opening(&mut owed, r.c.as_slice(), r.chosen, r.cause)?;
     match reached_at(r.decisions.as_slice()) {
         Some(at) => {
             add_success(&mut owed, r.c.as_slice(), at)?;
@@ -174,7 +231,7 @@ pub fn owed_to_client(alloc: Global, r: &Record) -> Result<Text, AllocError>
         }
         None => {
             if let Some(cause) = r.cause {
-                add_refusal(&mut owed, r.c.as_slice(), cause)?;
+                add_refusal(&mut owed, r.c.as_slice(), r.chosen, cause)?;
             }
         }
     }

@@ -11,25 +11,26 @@ ghost use Rattle.socks_machine.specs.declared.record.Decision.{Decision};
 ghost use Rattle.socks_machine.specs.Socks.{socks};
 ghost use Rattle.assoc_core.specs.Hearing.{HasHeard};
 ghost use Rattle.assoc_core.specs.Plain.{owed_c};
-ghost use Rattle.assoc_core.specs.Preludes.{IsConnect, IsOther};
+ghost use Rattle.assoc_core.specs.declared.hear.Heard.TheVariants.{Asked as HasAsked, Refused as IsRefused};
 ghost use Rattle.assoc_core.specs.Sending.{Sends};
 ghost use Rattle.assoc_core.specs.Stands.{Stands, TellsServed};
 ghost use Rattle.assoc_core.specs.Turns.{Turns, context};
 
 use crate::assoc::{Assoc, Next};
 use crate::grant::ask_grant;
-use crate::hear::{Heard, choose, hear};
-use crate::prelude::{Prelude, read_prelude};
+use crate::hear::{Heard, Hearing, choose, hear, methods_by};
 use crate::refusals::first_cause;
 use crate::relay::behind;
 use crate::replies::owed_to_client;
 use crate::send::{Sent, send_pending};
-use addr_pattern::Endpoint;
-use conf_model::Config;
+use addr_pattern::Host;
+use conf_model::{Command, Config};
+use handshake_core::Request;
 use net_ends::Link;
 use session_desk::DeskCall;
 use socks_machine::{Cause, Record};
 use std::alloc::{AllocError, Global};
+use user_login::Users;
 
 /// Sends what is pending to the client.
 pub fn send_to_client<L: Link>(
@@ -46,23 +47,32 @@ pub fn send_to_client<L: Link>(
 }
 
 impl<L: Link + Drop> Assoc<L> {
-    /// Talks with a client that was let in, until its prelude is decided; a whole one is granted or refused in the same
+    /// Talks with a client that was let in, until its prelude is whole or refused; a whole one is granted or refused in the same
     /// turn.
     pub(crate) fn talk<K: DeskCall>(
         mut self,
         alloc: Global,
         generation: u64,
         config: &Config,
+        users: &Users,
         desk: &mut K,
     ) -> Result<Next<L>, AllocError>
         requires { FitsNumbers config.now }
         ensures cap { IfOk result (λ next. K.cap desk.new ≡ K.cap desk.old) }
-        ensures turns { IfOk result (λ next. (users : List User) (pubs : List Config) (h : List Line) (marks : List StopBy) (net : NetTold) (now generation' : ℕ) (rule : Option ℕ) → K.stands desk.old h marks → Stands L.told (socks users pubs) self → TellsServed (L.told self.client) → numbered pubs generation ≡ Some config.now → IsPlain config.now → self.state.since ≡ now → self.state.cause ≡ None → self.state.decisions ≡ Decision.Opened generation' rule None ∷ [] → Turns L.told L.counts (K.stands desk.new) (context users pubs generation config.now (K.cap desk.old) h marks) now net net self next) }
+        ensures turns { IfOk result (λ next. (pubs : List Config) (h : List Line) (marks : List StopBy) (net : NetTold) (now generation' : ℕ) (rule : Option ℕ) → K.stands desk.old h marks → Stands L.told (socks users.now pubs) self → TellsServed users.now (L.told self.client) → numbered pubs generation ≡ Some config.now → IsPlain config.now → self.state.since ≡ now → self.state.cause ≡ None → self.state.decisions ≡ Decision.Opened generation' rule None ∷ [] → Turns L.told L.counts (K.stands desk.new) (context users.now pubs generation config.now (K.cap desk.old) h marks) now net net self next) }
     {
-        let heard = hear(alloc, &mut self.state.c, &mut self.client)?;
-        self.state.chosen = choose(generation, self.state.chosen, self.state.c.as_slice());
+        let methods = methods_by(self.state.chosen, config.methods.as_slice());
+        let Hearing { heard, method } = hear(
+            alloc,
+            methods,
+            users,
+            &mut self.state.c,
+            &mut self.client,
+        )?;
+        self.state.chosen = choose(generation, self.state.chosen, method);
         match heard {
-            Heard::Decided => self.proceed(alloc, generation, config, desk),
+            Heard::Asked(request) => self.grant(alloc, generation, config, desk, &request),
+            Heard::Refused(cause) => self.turn_away(alloc, desk, cause),
             Heard::End => Ok(self.hang_up(desk)),
             Heard::NotYet => self.answer(alloc, desk),
             Heard::Failed => Ok(Next::Done(self.finish(desk, Cause::ClientFault))),
@@ -79,7 +89,7 @@ impl<L: Link + Drop> Assoc<L> {
         Next::Done(self.finish(desk, Cause::ClientGone { at }))
     }
 
-    /// The client says nothing more yet: the greeting is answered.
+    /// The client says nothing more yet: what it has said is answered.
     fn answer<K: DeskCall>(mut self, alloc: Global, desk: &mut K) -> Result<Next<L>, AllocError>
         ensures cap { IfOk result (λ next. K.cap desk.new ≡ K.cap desk.old) }
         ensures turns { IfOk result (λ next. (users : List User) (pubs : List Config) (generation : ℕ) (config : Config) (h : List Line) (marks : List StopBy) (net : NetTold) (now : ℕ) (a : Assoc L) → K.stands desk.old h marks → HasHeard L.told L.counts (socks users pubs) generation config a self Heard.NotYet → a.state.since ≡ now → Turns L.told L.counts (K.stands desk.new) (context users pubs generation config (K.cap desk.old) h marks) now net net a next) }
@@ -91,26 +101,21 @@ impl<L: Link + Drop> Assoc<L> {
         }
     }
 
-    /// The prelude is decided.
-    fn proceed<K: DeskCall>(
-        self,
+    /// The prelude is refused: the refusal is written, and the association ends once it is, or where it can't be.
+    fn turn_away<K: DeskCall>(
+        mut self,
         alloc: Global,
-        generation: u64,
-        config: &Config,
         desk: &mut K,
+        cause: Cause,
     ) -> Result<Next<L>, AllocError>
-        requires { FitsNumbers config.now }
         ensures cap { IfOk result (λ next. K.cap desk.new ≡ K.cap desk.old) }
-        ensures turns { IfOk result (λ next. (users : List User) (pubs : List Config) (h : List Line) (marks : List StopBy) (net : NetTold) (now : ℕ) (a : Assoc L) → K.stands desk.old h marks → HasHeard L.told L.counts (socks users pubs) generation config.now a self Heard.Decided → a.state.since ≡ now → Turns L.told L.counts (K.stands desk.new) (context users pubs generation config.now (K.cap desk.old) h marks) now net net a next) }
+        ensures turns { IfOk result (λ next. (users : List User) (pubs : List Config) (generation : ℕ) (config : Config) (h : List Line) (marks : List StopBy) (net : NetTold) (now : ℕ) (a : Assoc L) → K.stands desk.old h marks → HasHeard L.told L.counts (socks users pubs) generation config a self (IsRefused cause) → a.state.since ≡ now → Turns L.told L.counts (K.stands desk.new) (context users pubs generation config (K.cap desk.old) h marks) now net net a next) }
     {
-        match read_prelude(self.state.c.as_slice()) {
-            Prelude::Whole(to) => self.grant(alloc, generation, config, desk, to),
-            Prelude::OtherVersion(byte) => {
-                let cause = Cause::BadVersion { at: 0, byte };
-                Ok(Next::Done(self.finish(desk, cause)))
-            }
-            // Only bytes of another form than the one that is served: they aren't answered.
-            Prelude::More => Ok(Next::Wait(self)),
+        self.state.cause = Some(cause);
+        match send_to_client(alloc, &mut self.state, &mut self.client)? {
+            Sent::All => Ok(Next::Done(self.finish(desk, cause))),
+            Sent::Full => Ok(Next::Wait(self)),
+            Sent::Failed => Ok(Next::Done(self.finish(desk, cause))),
         }
     }
 
@@ -121,13 +126,17 @@ impl<L: Link + Drop> Assoc<L> {
         generation: u64,
         config: &Config,
         desk: &mut K,
-        to: Endpoint,
+        request: &Request,
     ) -> Result<Next<L>, AllocError>
         requires { FitsNumbers config.now }
         ensures cap { IfOk result (λ next. K.cap desk.new ≡ K.cap desk.old) }
-        ensures turns { IfOk result (λ next. (users : List User) (pubs : List Config) (h : List Line) (marks : List StopBy) (net : NetTold) (now : ℕ) (a : Assoc L) → K.stands desk.old h marks → HasHeard L.told L.counts (socks users pubs) generation config.now a self Heard.Decided → IsConnect self.state.c to → a.state.since ≡ now → Turns L.told L.counts (K.stands desk.new) (context users pubs generation config.now (K.cap desk.old) h marks) now net net a next) }
+        ensures turns { IfOk result (λ next. (users : List User) (pubs : List Config) (h : List Line) (marks : List StopBy) (net : NetTold) (now : ℕ) (a : Assoc L) → K.stands desk.old h marks → HasHeard L.told L.counts (socks users pubs) generation config.now a self (HasAsked request.now) → a.state.since ≡ now → Turns L.told L.counts (K.stands desk.new) (context users pubs generation config.now (K.cap desk.old) h marks) now net net a next) }
     {
-        ask_grant(&mut self.state, generation, config, desk, to)?;
+        let (Command::Connect, Host::Addr(addr)) = (request.command, &request.host) else {
+            // Another command, or a name, isn't served: such a request isn't answered.
+            return Ok(Next::Wait(self));
+        };
+        ask_grant(&mut self.state, generation, config, desk, request, *addr)?;
         match send_to_client(alloc, &mut self.state, &mut self.client)? {
             Sent::All => Ok(Next::Again(self)),
             Sent::Full => Ok(Next::Again(self)),

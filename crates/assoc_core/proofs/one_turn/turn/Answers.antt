@@ -12,8 +12,8 @@ pub returns-in-Some-clause-cap : goal.returns-in-Some-clause-cap
 returns-in-Some-clause-cap g c = c.closing.ensures.cap
 
 pub returns-in-Some-clause-turns : goal.returns-in-Some-clause-turns
-returns-in-Some-clause-turns g c = if-ok c.closing.result _ _ (λ next f users pubs h marks stood stands tells published plain since.
-    f users pubs c.args.generation c.args.config.now c.args.now (g.N.Net.told c.args.net.now) h marks stood stands since) c.closing.ensures.turns
+returns-in-Some-clause-turns g c = if-ok c.closing.result _ _ (λ next f pubs h marks stood stands tells published plain since.
+    f c.args.users.now pubs c.args.generation c.args.config.now c.args.now (g.N.Net.told c.args.net.now) h marks stood stands since) c.closing.ensures.turns
 
 pub accept-requires : goal.accept-requires
 accept-requires g c = c.requires
@@ -24,8 +24,8 @@ talk-requires g c = c.requires
 pub returns-in-Accept-clause-turns : goal.returns-in-Accept-clause-turns
 returns-in-Accept-clause-turns g c =
     let ds : c.args.a.state.decisions ≡ [] = at-accept c.args.a.state.decisions (subst (λ (z : List Decision). IsCourse z Course.Accept) c.as_slice.ensures c.in-Accept.ensures) in
-    if-ok c.accept.result _ _ (λ next f users pubs h marks stood stands tells published plain since.
-    f users pubs h marks (g.N.Net.told c.args.net.now) c.args.now stood stands tells since ds) c.accept.ensures.turns
+    if-ok c.accept.result _ _ (λ next f pubs h marks stood stands tells published plain since.
+    f c.args.users.now pubs h marks (g.N.Net.told c.args.net.now) c.args.now stood stands tells since ds) c.accept.ensures.turns
 
 pub returns-in-Accept-clause-cap : goal.returns-in-Accept-clause-cap
 returns-in-Accept-clause-cap g c = if-ok-same c.accept.result _ c.accept.ensures.cap
@@ -42,21 +42,21 @@ returns-in-Relay-clause-cap g c = c.relay.ensures.cap
 pub returns-in-Talk-clause-turns : goal.returns-in-Talk-clause-turns
 returns-in-Talk-clause-turns g c =
     let none : c.args.a.state.cause ≡ None = c.in_default.is in
-    if-ok c.talk.result _ _ (λ next f users pubs h marks stood stands tells published plain since.
-    let k = at-talk c.args.a.state c.args.a.state.decisions stands.plain.decided (subst (λ (z : List Decision). IsCourse z Course.Talk) c.as_slice.ensures c.in-Talk.ensures) in
-    f users pubs h marks (g.N.Net.told c.args.net.now) c.args.now k.0 k.1.0 stood stands tells published plain since none k.1.1) c.talk.ensures.turns
+    if-ok c.talk.result _ _ (λ next f pubs h marks stood stands tells published plain since.
+    let k = at-talk c.args.users.now c.args.a.state c.args.a.state.decisions stands.plain.decided (subst (λ (z : List Decision). IsCourse z Course.Talk) c.as_slice.ensures c.in-Talk.ensures) in
+    f pubs h marks (g.N.Net.told c.args.net.now) c.args.now k.0 k.1.0 stood stands tells published plain since none k.1.1) c.talk.ensures.turns
 
 pub returns-in-Reach-clause-turns : goal.returns-in-Reach-clause-turns
 returns-in-Reach-clause-turns g c =
     let none : c.args.a.state.cause ≡ None = c.in_default.is in
-    if-ok c.reach.result _ _ (λ next f users pubs h marks stood stands tells published plain since.
-    let k = at-reach c.args.a.state c.args.a.state.decisions stands.plain.decided none (subst (λ (z : List Decision). IsCourse z Course.Reach) c.as_slice.ensures c.in-Reach.ensures) in
+    if-ok c.reach.result _ _ (λ next f pubs h marks stood stands tells published plain since.
+    let k = at-reach c.args.users.now c.args.a.state c.args.a.state.decisions stands.plain.decided none (subst (λ (z : List Decision). IsCourse z Course.Reach) c.as_slice.ensures c.in-Reach.ensures) in
     over-desk g.N.Link.Link.told g.N.Link.Link.counts (g.K.DeskCall.stands c.args.desk.now) h marks _ c.args.now _ _ c.args.a next stood
-    (f users pubs c.args.generation c.args.config.now (g.K.DeskCall.cap c.args.desk.now) h marks k.g k.g' k.rule k.facts k.verdict k.route stands since none k.is)) c.reach.ensures
+    (f c.args.users.now pubs c.args.generation c.args.config.now (g.K.DeskCall.cap c.args.desk.now) h marks k.g k.g' k.rule k.facts k.verdict k.route stands since none k.is)) c.reach.ensures
 
 pub returns-in-Relay-clause-turns : goal.returns-in-Relay-clause-turns
 returns-in-Relay-clause-turns g c =
     let none : c.args.a.state.cause ≡ None = c.in_default.is in
-    if-ok c.relay.result _ _ (λ next f users pubs h marks stood stands tells published plain since.
-    let k = at-relay c.args.a.state c.args.a.state.decisions stands.plain.decided none (subst (λ (z : List Decision). IsCourse z Course.Relay) c.as_slice.ensures c.in-Relay.ensures) in
-    f users pubs c.args.generation c.args.config.now c.args.now (g.N.Net.told c.args.net.now) h marks k.0 stood stands since k.1 none) c.relay.ensures.turns
+    if-ok c.relay.result _ _ (λ next f pubs h marks stood stands tells published plain since.
+    let k = at-relay c.args.users.now c.args.a.state c.args.a.state.decisions stands.plain.decided none (subst (λ (z : List Decision). IsCourse z Course.Relay) c.as_slice.ensures c.in-Relay.ensures) in
+    f c.args.users.now pubs c.args.generation c.args.config.now c.args.now (g.N.Net.told c.args.net.now) h marks k.0 stood stands since k.1 none) c.relay.ensures.turns
