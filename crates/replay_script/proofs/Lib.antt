@@ -4,7 +4,10 @@ pub mod Reading
 pub mod Unique
 pub mod Sides
 pub mod PlainLaws
+pub mod Counting
 pub mod Publishing
+pub mod Giving
+pub mod RefusedTexts
 pub mod Steps
 pub mod Serving
 pub mod Deciding

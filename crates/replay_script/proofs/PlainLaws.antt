@@ -3,13 +3,12 @@ use Rattle.std.proofs.Common.{◌≡◌, ℕ, Bool, true, false, ◌&&◌, List,
 use Rattle.std.specs.List.{list_all, All}
 use Rattle.std.proofs.lemmas.List.Elements.{All-nil, All-cons, All-head, All-tail}
 use Rattle.conf_model.specs.declared.config.Config.{Config}
-use Rattle.conf_model.specs.declared.protocol.Method.{Method}
 use Rattle.conf_model.specs.declared.route.Route.{Route}
 use Rattle.conf_model.specs.declared.route.Via.{Via}
 use Rattle.conf_model.specs.declared.rule.ClientRule.{ClientRule}
 use Rattle.conf_model.specs.declared.rule.SocksRule.{SocksRule}
 use Rattle.conf_model.specs.Plain.{IsPlain}
-use Rattle.replay_script.specs.PlainTests.{asks_no_login, is_direct, are_direct, are_free_clients, are_free_requests}
+use Rattle.replay_script.specs.PlainTests.{is_direct, are_direct, are_free_clients, are_free_requests}
 
 both : (a b : Bool) → (a && b) ≡ true → (a ≡ true) × (b ≡ true)
 both true b h = (refl, h)
@@ -27,12 +26,6 @@ all_pass test P f [] h = refl
 all_pass test P f (x ∷ xs) h =
     ap (λ (b : Bool). b && list_all test xs) (f x (All-head P x xs h)) ∙ all_pass test P f xs (All-tail P x xs h)
 
-no_login_is : (ms : List Method) → asks_no_login ms ≡ true → ms ≡ Method.NoAuth ∷ []
-no_login_is [] h = absurd (true≢false (sym h))
-no_login_is (Method.NoAuth ∷ []) h = refl
-no_login_is (Method.Username ∷ []) h = absurd (true≢false (sym h))
-no_login_is (m ∷ n ∷ ms) h = absurd (true≢false (sym h))
-
 direct_is : (via : Via) → is_direct via ≡ true → via ≡ Via.Direct
 direct_is Via.Direct h = refl
 direct_is (Via.Proxy at version login) h = absurd (true≢false (sym h))
@@ -41,16 +34,12 @@ none_is : (max : Option ℕ) → is_none max ≡ true → max ≡ None
 none_is None h = refl
 none_is (Some n) h = absurd (true≢false (sym h))
 
-pub plain_by_tests : (k : Config) → asks_no_login k.methods ≡ true → are_direct k.routes ≡ true → are_free_clients k.client ≡ true → are_free_requests k.socks ≡ true → IsPlain k
-plain_by_tests k methods routes client socks = record {
-  methods = no_login_is k.methods methods;
+pub plain_by_tests : (k : Config) → are_direct k.routes ≡ true → are_free_clients k.client ≡ true → are_free_requests k.socks ≡ true → IsPlain k
+plain_by_tests k routes client socks = record {
   routes = all_true (λ (r : Route). is_direct r.via) (λ (r : Route). r.via ≡ Via.Direct) (λ r. direct_is r.via) k.routes routes;
   client = all_true (λ (r : ClientRule). is_none r.max) (λ (r : ClientRule). r.max ≡ None) (λ r. none_is r.max) k.client client;
   socks = all_true (λ (r : SocksRule). is_none r.max) (λ (r : SocksRule). r.max ≡ None) (λ r. none_is r.max) k.socks socks;
 }
-
-pub plain_no_login : (k : Config) → IsPlain k → asks_no_login k.methods ≡ true
-plain_no_login k h = ap asks_no_login h.methods
 
 pub plain_direct : (k : Config) → IsPlain k → are_direct k.routes ≡ true
 plain_direct k h = all_pass (λ (r : Route). is_direct r.via) (λ (r : Route). r.via ≡ Via.Direct) (λ r e. ap is_direct e) k.routes h.routes

@@ -1,18 +1,16 @@
 -- A script that is read is served.
-use Rattle.std.proofs.Common.{◌≡◌, ◌≢◌, ◌+◌, ◌⊎◌, ℕ, List, [], ◌∷◌, inl, inr, Result, Ok, Err, IfOk, sym, subst, refl}
-use Rattle.conf_model.specs.declared.fault.ConfFault.{ConfFault}
-use Rattle.conf_model.specs.declared.fault.ConfKind.{ConfKind}
+use Rattle.std.proofs.Common.{◌≢◌, ◌+◌, ℕ, List, [], ◌∷◌, inl, inr, Result, Ok, Err, IfOk, sym, subst}
 use Rattle.socks_machine.specs.declared.world.Outer.{Outer}
 use Rattle.socks_machine.specs.declared.script.ScriptLine.{ScriptLine}
 use Rattle.replay_script.specs.declared.entry.Entry.{Entry}
 use Rattle.replay_script.specs.declared.fault.ScriptFault.{ScriptFault}
 use Rattle.replay_script.specs.declared.fault.ScriptKind.{ScriptKind}
 use Rattle.replay_script.specs.declared.state.State.{State}
-use Rattle.replay_script.specs.Conf.{Refuses}
 use Rattle.replay_script.specs.Conditions.{start, after, IsServedOutcome, IsServedForm, IsServedFrom, IsServed}
 use Rattle.replay_script.specs.Forms.{IsOutcome, Spells}
-use Rattle.replay_script.specs.Script.{SpellsEntry, Begins, Reads, AreLines, IsRefusedAt, IsScript, OnLines, OnLinesFault, lines_of}
+use Rattle.replay_script.specs.Script.{SpellsEntry, Begins, IsServedEntry, Refuses, Reads, AreLines, IsRefusedAt, IsScript, OnLines, OnLinesFault, lines_of}
 use Rattle.replay_script.proofs.Publishing.{published_fits}
+use Rattle.replay_script.proofs.Giving.{given_fits}
 use Rattle.replay_script.proofs.Steps.{IsSoFar}
 
 outcome_served : (text : List ℕ) (outer : Outer) → IsOutcome text outer → IsServedOutcome outer
@@ -30,23 +28,17 @@ spelled_served text (ScriptLine.Dial n outer) h = outcome_served h.2.1 outer h.2
 spelled_served text (ScriptLine.Turn w n) h = h.0
 spelled_served text _ h = absurd h
 
-FormOf : Entry → Type 0
-FormOf Entry.Skipped = Unit {0}
-FormOf (Entry.Served l) = IsServedForm l
-
-spelled_form : (text : List ℕ) (entry : Entry) → SpellsEntry text entry → FormOf entry
-unfolding FormOf
+spelled_form : (text : List ℕ) (entry : Entry) → SpellsEntry text entry → IsServedEntry entry
 spelled_form text Entry.Skipped h = tt
 spelled_form text (Entry.Served l) h = spelled_served text l h
 
-begins_form : (text : List ℕ) (entry : Entry) (lines : ℕ) (behind : List ℕ) → Begins text entry lines behind → FormOf entry
-unfolding FormOf
+pub begins_form : (text : List ℕ) (entry : Entry) (lines : ℕ) (behind : List ℕ) → Begins text entry lines behind → IsServedEntry entry
 begins_form text entry lines behind (inl h) = spelled_form h.0 entry h.2
-begins_form text entry lines behind (inr h) = subst FormOf (sym h.2) (published_fits text h.0 lines behind h.1)
+begins_form text entry lines behind (inr (inl h)) = subst IsServedEntry (sym h.2) (published_fits text h.0 lines behind h.1)
+begins_form text entry lines behind (inr (inr h)) = subst IsServedEntry (sym h.2) (given_fits text h.0 lines behind h.1)
 
 reads_served : (s : State) (text : List ℕ) (at : ℕ) (entries : List Entry) (rest : List ℕ) (now : State) (number : ℕ) →
     Reads s text at entries rest now number → IsServedFrom s (lines_of entries)
-unfolding FormOf
 reads_served s text at [] rest now number h = tt
 reads_served s text at (Entry.Skipped ∷ entries) rest now number h = reads_served s h.1 (at + h.0) entries rest now number h.3
 reads_served s text at (Entry.Served l ∷ entries) rest now number h =
@@ -62,32 +54,19 @@ pub read_served : (text : List ℕ) (read : Result (List ScriptLine) ScriptFault
 read_served text (Ok ls) h = lines_served text ls h
 read_served text (Err fault) h = tt
 
--- ---- a configuration that is refused
+-- ---- a counted text that is refused
 
-memory_or : (kind : ConfKind) → (kind ≡ ConfKind.Memory) ⊎ (kind ≢ ConfKind.Memory)
-memory_or ConfKind.Memory = inl refl
-memory_or ConfKind.UnknownKeyword = inr (λ e. cc)
-memory_or ConfKind.BadValue = inr (λ e. cc)
-memory_or ConfKind.GssapiRefused = inr (λ e. cc)
-memory_or ConfKind.PamRefused = inr (λ e. cc)
-memory_or ConfKind.MethodRefused = inr (λ e. cc)
-memory_or ConfKind.InterfaceRefused = inr (λ e. cc)
-memory_or ConfKind.MissingInternal = inr (λ e. cc)
-memory_or ConfKind.ControlNotLoopback = inr (λ e. cc)
-memory_or ConfKind.TooMany = inr (λ e. cc)
-memory_or (ConfKind.Text fault) = inr (λ e. cc)
-
-pub lines_refused : (text : List ℕ) (ls : List ScriptLine) (rest : List ℕ) (now : State) (number : ℕ) (fault : ConfFault) (line : ℕ) (kind : ScriptKind) →
-    IsSoFar start text ls rest now number → (fault.kind ≢ ConfKind.Memory → Refuses rest fault) → (fault.kind ≡ ConfKind.Memory → kind ≡ ScriptKind.Memory) →
-    (fault.kind ≢ ConfKind.Memory → (line ≡ number) × (kind ≡ ScriptKind.Conf fault)) → OnLinesFault text line kind
-lines_refused text ls rest now number fault line kind so_far refuses memory refused =
-    elim (memory_or fault.kind) [
-      | inl e ↦ subst (λ (z : ScriptKind). OnLinesFault text line z) (sym (memory e)) tt
-      | inr n ↦
-          subst (λ (z : ℕ). OnLinesFault text z kind) (sym (refused n).0) (subst (λ (z : ScriptKind). OnLinesFault text number z) (sym (refused n).1)
-          (refusal text ls rest now number fault so_far (refuses n)))
-    ]
+pub lines_refused : (text : List ℕ) (ls : List ScriptLine) (rest : List ℕ) (now : State) (number : ℕ) (kind : ScriptKind) →
+    IsSoFar start text ls rest now number → (kind ≢ ScriptKind.Memory → Refuses now rest kind) → OnLinesFault text number kind
+lines_refused text ls rest now number kind s refuses = at kind refuses
   where
-    refusal : (text : List ℕ) (ls : List ScriptLine) (rest : List ℕ) (now : State) (number : ℕ) (fault : ConfFault) → IsSoFar start text ls rest now number → Refuses rest fault →
-        IsRefusedAt text number fault
-    refusal text ls rest now number fault s r = record { entries = s.entries; rest = rest; last = now; reading = s.reading; refuses = r }
+    refused : (kind : ScriptKind) → Refuses now rest kind → IsRefusedAt text number kind
+    refused kind r = record { entries = s.entries; rest = rest; last = now; reading = s.reading; refuses = r }
+
+    at : (kind : ScriptKind) → (kind ≢ ScriptKind.Memory → Refuses now rest kind) → OnLinesFault text number kind
+    at ScriptKind.Memory r = tt
+    at ScriptKind.NotBuilt r = absurd (r (λ e. cc e)).faulty
+    at ScriptKind.Length r = refused ScriptKind.Length (r (λ e. cc e))
+    at ScriptKind.Header r = refused ScriptKind.Header (r (λ e. cc e))
+    at (ScriptKind.Conf fault) r = refused (ScriptKind.Conf fault) (r (λ e. cc e))
+    at (ScriptKind.Users fault) r = refused (ScriptKind.Users fault) (r (λ e. cc e))

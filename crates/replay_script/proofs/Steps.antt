@@ -1,16 +1,23 @@
 -- Entries of a script, one after another.
-use Rattle.std.proofs.Common.{◌≡◌, ◌<◌, ◌≤◌, ◌+◌, ℕ, List, [], ◌∷◌, ◌++◌, length, codes, inl, inr, sym, subst, ap, ◌∙◌, refl, arith}
+use Rattle.std.proofs.Common.{false, true≢false, ◌≢◌, ◌≡◌, ◌<◌, ◌≤◌, ◌+◌, ℕ, List, [], ◌∷◌, ◌++◌, length, inl, inr, sym, subst, ap, ◌∙◌, refl, arith}
 use Rattle.conf_model.specs.declared.config.Config.{Config}
 use Rattle.conf_model.specs.declared.fault.ConfFault.{ConfFault}
+use Rattle.conf_model.specs.declared.user.User.{User}
+use Rattle.user_login.specs.declared.fault.UsersFault.{UsersFault}
 use Rattle.socks_machine.specs.declared.script.ScriptLine.{ScriptLine}
 use Rattle.replay_script.specs.declared.entry.Entry.{Entry}
 use Rattle.replay_script.specs.declared.state.State.{State}
-use Rattle.replay_script.specs.Conf.{Refuses}
+use Rattle.replay_script.specs.declared.fault.ScriptKind.{ScriptKind}
+use Rattle.replay_script.specs.Conf.{publish_word}
+use Rattle.replay_script.specs.Counted.{Counts}
 use Rattle.replay_script.specs.Cuts.{IsLine}
 use Rattle.replay_script.specs.Forms.{IsNumbered}
-use Rattle.replay_script.specs.Script.{SpellsEntry, Begins, Serves, Reads, lines_of, behind_entry}
-use Rattle.replay_script.proofs.Unique.{one_line, publish_apart, skipped_apart, skipped_publish}
-use Rattle.replay_script.proofs.Publishing.{IsHeaded, one_publish, publish_head, publish_shorter, published_unrefused}
+use Rattle.replay_script.specs.Script.{SpellsEntry, Begins, Fails, RefusesText, Serves, Reads, lines_of, behind_entry, is_looked_at}
+use Rattle.replay_script.specs.Users.{users_word}
+use Rattle.replay_script.proofs.Unique.{CountsOthers, one_line, counting_apart, counting_unskipped, skipped_apart, words_apart}
+use Rattle.replay_script.proofs.Counting.{IsHeaded, counts_head, counts_shorter}
+use Rattle.replay_script.proofs.Publishing.{one_publish, one_config_refusal, published_unrefused}
+use Rattle.replay_script.proofs.Giving.{one_gift, one_users_refusal, given_unrefused}
 use Rattle.replay_script.proofs.Reading.{one_first, shorter}
 
 -- ---- one entry
@@ -21,48 +28,93 @@ one_entry text Entry.Skipped (Entry.Served m) h k = absurd (skipped_apart text m
 one_entry text (Entry.Served l) Entry.Skipped h k = absurd (skipped_apart text l k h)
 one_entry text (Entry.Served l) (Entry.Served m) h k = ap (λ (z : ScriptLine). Entry.Served z) (one_line text l m h k)
 
-entry_apart : (text : List ℕ) (n : ℕ) (a : Entry) → IsNumbered (codes "publish ") text n → SpellsEntry text a → ⊥
-entry_apart text n Entry.Skipped h k = skipped_publish text n k h
-entry_apart text n (Entry.Served l) h k = publish_apart text n l h k
+entry_apart : (word text : List ℕ) (n : ℕ) (a : Entry) → CountsOthers word → IsNumbered word text n → SpellsEntry text a → ⊥
+entry_apart word text n Entry.Skipped w h k = counting_unskipped word text n w h k
+entry_apart word text n (Entry.Served l) w h k = counting_apart word text n l w h k
 
 -- a line that counts others is no entry of one line
-headed_apart : (text line behind : List ℕ) (a : Entry) → IsHeaded text → IsLine text line behind → SpellsEntry line a → ⊥
-headed_apart text line behind a h first k =
-    let q = (one_first text line h.first behind h.rest first h.line).0 in
-    entry_apart h.first h.number a h.numbered (subst (λ (z : List ℕ). SpellsEntry z a) q k)
+headed_apart : (word text line behind : List ℕ) (a : Entry) → CountsOthers word → IsHeaded word text → IsLine text line behind → SpellsEntry line a → ⊥
+headed_apart word text line behind a w h first k =
+    let q = (one_first text h.first line h.rest behind h.line first).0 in
+    entry_apart word line h.number a w (subst (λ (z : List ℕ). IsNumbered word z h.number) q h.numbered) k
+
+published_apart : (text counted : List ℕ) (n : ℕ) (x line behind : List ℕ) (a : Entry) → Counts publish_word text counted n x → IsLine text line behind → SpellsEntry line a → ⊥
+published_apart text counted n x line behind a h first k = headed_apart publish_word text line behind a (inl refl) (counts_head publish_word text counted n x h) first k
+
+given_apart : (text counted : List ℕ) (n : ℕ) (x line behind : List ℕ) (a : Entry) → Counts users_word text counted n x → IsLine text line behind → SpellsEntry line a → ⊥
+given_apart text counted n x line behind a h first k = headed_apart users_word text line behind a (inr refl) (counts_head users_word text counted n x h) first k
+
+-- lines that publish give no users
+counts_apart : (text c d : List ℕ) (n m : ℕ) (x y : List ℕ) → Counts publish_word text c n x → Counts users_word text d m y → ⊥
+counts_apart text c d n m x y h k =
+    let p = counts_head publish_word text c n x h in
+    let u = counts_head users_word text d m y k in
+    let q = (one_first text u.first p.first u.rest p.rest u.line p.line).0 in
+    words_apart p.first p.number u.number p.numbered (subst (λ (z : List ℕ). IsNumbered users_word z u.number) q u.numbered)
 
 -- a text begins with at most one entry
 pub one_begins : (text : List ℕ) (a b : Entry) (n k : ℕ) (x y : List ℕ) → Begins text a n x → Begins text b k y → (a ≡ b) × (n ≡ k) × (x ≡ y)
 one_begins text a b n k x y (inl g) (inl h) =
     let q = one_first text g.0 h.0 x y g.1 h.1 in
     (one_entry h.0 a b (subst (λ (z : List ℕ). SpellsEntry z a) q.0 g.2) h.2, g.3 ∙ sym h.3, q.1)
-one_begins text a b n k x y (inl g) (inr h) =
-    absurd (headed_apart text g.0 x a (publish_head text h.1.counted k y h.1.publish) g.1 g.2)
-one_begins text a b n k x y (inr g) (inl h) =
-    absurd (headed_apart text h.0 y b (publish_head text g.1.counted n x g.1.publish) h.1 h.2)
-one_begins text a b n k x y (inr g) (inr h) =
+one_begins text a b n k x y (inr (inl g)) (inr (inl h)) =
     let e = one_publish text g.0 h.0 n k x y g.1 h.1 in
     (g.2 ∙ (ap (λ (z : Config). Entry.Served (ScriptLine.Publish z)) e.0 ∙ sym h.2), e.1, e.2)
+one_begins text a b n k x y (inr (inr g)) (inr (inr h)) =
+    let e = one_gift text g.0 h.0 n k x y g.1 h.1 in
+    (g.2 ∙ (ap (λ (z : List User). Entry.Served (ScriptLine.UsersAre z)) e.0 ∙ sym h.2), e.1, e.2)
+one_begins text a b n k x y (inl g) (inr (inl h)) = absurd (published_apart text h.1.counted k y g.0 x a h.1.publish g.1 g.2)
+one_begins text a b n k x y (inl g) (inr (inr h)) = absurd (given_apart text h.1.counted k y g.0 x a h.1.given g.1 g.2)
+one_begins text a b n k x y (inr (inl g)) (inl h) = absurd (published_apart text g.1.counted n x h.0 y b g.1.publish h.1 h.2)
+one_begins text a b n k x y (inr (inr g)) (inl h) = absurd (given_apart text g.1.counted n x h.0 y b g.1.given h.1 h.2)
+one_begins text a b n k x y (inr (inl g)) (inr (inr h)) = absurd (counts_apart text g.1.counted h.1.counted n k x y g.1.publish h.1.given)
+one_begins text a b n k x y (inr (inr g)) (inr (inl h)) = absurd (counts_apart text h.1.counted g.1.counted k n y x h.1.publish g.1.given)
 
 pub one_begin : (text : List ℕ) (a b : Entry) (n k : ℕ) (x y : List ℕ) → Begins text a n x → Begins text b k y → a ≡ b
 one_begin text a b n k x y g h = (one_begins text a b n k x y g h).0
 
 pub begins_shorter : (text : List ℕ) (entry : Entry) (lines : ℕ) (behind : List ℕ) → Begins text entry lines behind → (lines + length behind ≤ length text) × (0 < lines)
 begins_shorter text entry lines behind (inl h) = let a = shorter text h.0 behind h.1 in let e = h.3 in (omega (arith, a, e), omega (arith, e))
-begins_shorter text entry lines behind (inr h) = publish_shorter text h.1.counted lines behind h.1.publish
+begins_shorter text entry lines behind (inr (inl h)) = counts_shorter publish_word text h.1.counted lines behind h.1.publish
+begins_shorter text entry lines behind (inr (inr h)) = counts_shorter users_word text h.1.counted lines behind h.1.given
 
--- a text that is refused begins with no entry
-pub refused_apart : (text : List ℕ) (fault : ConfFault) (a : Entry) (n : ℕ) (x : List ℕ) → Refuses text fault → Begins text a n x → ⊥
-refused_apart text fault a n x h (inl g) = headed_apart text g.0 x a (publish_head text h.counted h.lines h.behind h.publish) g.1 g.2
-refused_apart text fault a n x h (inr g) = published_unrefused text g.0 n x fault g.1 h
+-- ---- a counted text that is refused
 
--- nor is it empty
-pub refused_some : (text : List ℕ) (fault : ConfFault) → Refuses text fault → 0 < length text
-refused_some text fault h =
-    let s = publish_shorter text h.counted h.lines h.behind h.publish in
-    let a = s.0 in
-    let b = s.1 in
-    omega (arith, a, b)
+-- where it is, no entry begins
+pub refused_apart : (text : List ℕ) (kind : ScriptKind) (a : Entry) (n : ℕ) (x : List ℕ) → RefusesText text kind → Begins text a n x → ⊥
+refused_apart text (ScriptKind.Conf fault) a n x h (inl g) = published_apart text h.counted h.lines h.behind g.0 x a h.publish g.1 g.2
+refused_apart text (ScriptKind.Conf fault) a n x h (inr (inl g)) = published_unrefused text g.0 n x fault g.1 h
+refused_apart text (ScriptKind.Conf fault) a n x h (inr (inr g)) = counts_apart text h.counted g.1.counted h.lines n h.behind x h.publish g.1.given
+refused_apart text (ScriptKind.Users fault) a n x h (inl g) = given_apart text h.counted h.lines h.behind g.0 x a h.given g.1 g.2
+refused_apart text (ScriptKind.Users fault) a n x h (inr (inl g)) = counts_apart text g.1.counted h.counted n h.lines x h.behind g.1.publish h.given
+refused_apart text (ScriptKind.Users fault) a n x h (inr (inr g)) = given_unrefused text g.0 n x fault g.1 h
+refused_apart text _ a n x h g = h
+
+-- it is not empty
+pub refused_some : (text : List ℕ) (kind : ScriptKind) → RefusesText text kind → 0 < length text
+refused_some text (ScriptKind.Conf fault) h = let s = counts_shorter publish_word text h.counted h.lines h.behind h.publish in let a = s.0 in let b = s.1 in omega (arith, a, b)
+refused_some text (ScriptKind.Users fault) h = let s = counts_shorter users_word text h.counted h.lines h.behind h.given in let a = s.0 in let b = s.1 in omega (arith, a, b)
+refused_some text _ h = absurd h
+
+-- its fault is one
+pub one_refusal : (text : List ℕ) (k j : ScriptKind) → RefusesText text k → RefusesText text j → k ≡ j
+one_refusal text (ScriptKind.Conf f) (ScriptKind.Conf g) h k = ap (λ (z : ConfFault). ScriptKind.Conf z) (one_config_refusal text f g h k)
+one_refusal text (ScriptKind.Users f) (ScriptKind.Users g) h k = ap (λ (z : UsersFault). ScriptKind.Users z) (one_users_refusal text f g h k)
+one_refusal text (ScriptKind.Conf f) (ScriptKind.Users g) h k = absurd (counts_apart text h.counted k.counted h.lines k.lines h.behind k.behind h.publish k.given)
+one_refusal text (ScriptKind.Users f) (ScriptKind.Conf g) h k = absurd (counts_apart text k.counted h.counted k.lines h.lines k.behind h.behind k.publish h.given)
+one_refusal text (ScriptKind.Conf f) _ h k = absurd k
+one_refusal text (ScriptKind.Users f) _ h k = absurd k
+one_refusal text _ j h k = absurd h
+
+-- where it isn't looked at, nothing is served or refused
+pub unlooked : (s : State) (text : List ℕ) (kind : ScriptKind) → (kind ≢ ScriptKind.Memory → RefusesText text kind) → is_looked_at s kind ≡ false → Fails s text
+unlooked s text kind refuses h =
+    let known : kind ≢ ScriptKind.Memory = λ e. true≢false (sym (ap (is_looked_at s) e) ∙ h) in
+    let faulty = refuses known in
+    record {
+      serves = λ entry lines behind k. refused_apart text kind entry lines behind faulty k.begins;
+      refuses = λ other k. true≢false (sym k.looked_at ∙ (ap (is_looked_at s) (one_refusal text other kind k.faulty faulty) ∙ h));
+    }
 
 -- ---- entries that were read, and one more
 

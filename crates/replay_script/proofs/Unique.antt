@@ -1,12 +1,14 @@
 -- A text spells at most one line.
-use Rattle.std.proofs.Common.{◌≡◌, ◌≢◌, ◌<◌, ◌≤◌, ◌^◌, ℕ, true, List, [], ◌∷◌, codes, get_or, sym, ap, ◌∙◌, refl, arith}
+use Rattle.std.proofs.Common.{◌≡◌, ◌≢◌, ◌<◌, ◌≤◌, ◌^◌, ℕ, true, List, [], ◌∷◌, ◌++◌, ◌⊎◌, inl, inr, codes, get_or, sym, subst, ap, ◌∙◌, refl, arith}
 use Rattle.std.proofs.lemmas.Bool.Decides.{nat_tests}
 use Rattle.std.proofs.lemmas.Fmt.{decimal_injective}
 use Rattle.addr_pattern.specs.declared.endpoint.Endpoint.{Endpoint}
 use Rattle.socks_machine.specs.declared.world.Outer.{Outer}
 use Rattle.socks_machine.specs.declared.script.ScriptLine.{ScriptLine}
+use Rattle.replay_script.specs.Conf.{publish_word}
 use Rattle.replay_script.specs.Cuts.{IsNumber}
 use Rattle.replay_script.specs.Forms.{largest, Spells, IsEndpoint, IsHex, IsNumbered, IsOpen, IsClient, IsDial, IsOutcome, is_skipped}
+use Rattle.replay_script.specs.Users.{users_word}
 use Rattle.replay_script.proofs.Peeling.{peel_after, peel_cut, peel_number}
 
 pub one_number : (limit : ℕ) (text : List ℕ) (n m : ℕ) → limit < 2 ^ 64 → IsNumber limit text n → IsNumber limit text m → n ≡ m
@@ -118,32 +120,55 @@ one_line text l m h k =
     let b = second text m k in
     same_form text l m (sym a.0 ∙ b.0) a.1 h k
 
--- no line begins as one that publishes, or as one that is skipped
-head_apart : (text : List ℕ) (l : ScriptLine) → Spells text l → (35 < get_or text 0 0) × (get_or text 0 0 ≢ 112)
-head_apart text (ScriptLine.See w) h = let e : get_or text 0 0 ≡ 115 = ap (λ (z : List ℕ). get_or z 0 0) h.1 in (omega (arith, e), λ f. absurd (omega (arith, e, f)))
-head_apart text (ScriptLine.Open w n p a) h = let e : get_or text 0 0 ≡ 111 = ap (λ (z : List ℕ). get_or z 0 0) h.1.1 in (omega (arith, e), λ f. absurd (omega (arith, e, f)))
-head_apart text (ScriptLine.Client n xs) h = let e : get_or text 0 0 ≡ 99 = ap (λ (z : List ℕ). get_or z 0 0) h.1 in (omega (arith, e), λ f. absurd (omega (arith, e, f)))
-head_apart text (ScriptLine.ClientEnd n) h = let e : get_or text 0 0 ≡ 99 = ap (λ (z : List ℕ). get_or z 0 0) h.1 in (omega (arith, e), λ f. absurd (omega (arith, e, f)))
-head_apart text (ScriptLine.TargetEnd n) h = let e : get_or text 0 0 ≡ 116 = ap (λ (z : List ℕ). get_or z 0 0) h.1 in (omega (arith, e), λ f. absurd (omega (arith, e, f)))
-head_apart text (ScriptLine.Dial n o) h = let e : get_or text 0 0 ≡ 100 = ap (λ (z : List ℕ). get_or z 0 0) h.1 in (omega (arith, e), λ f. absurd (omega (arith, e, f)))
-head_apart text (ScriptLine.Turn w n) h = let e : get_or text 0 0 ≡ 116 = ap (λ (z : List ℕ). get_or z 0 0) h.1.1 in (omega (arith, e), λ f. absurd (omega (arith, e, f)))
+-- no line begins as one that counts others, or as one that is skipped
+abbrev IsOtherHead : ℕ → Type 0
+IsOtherHead b = (35 < b) × (b ≢ 112) × (b ≢ 117)
+
+other_head : (b k : ℕ) → b ≡ k → (35 < k) × (k ≢ 112) × (k ≢ 117) → IsOtherHead b
+other_head b k e h = subst IsOtherHead (sym e) h
+
+head_apart : (text : List ℕ) (l : ScriptLine) → Spells text l → IsOtherHead (get_or text 0 0)
+head_apart text (ScriptLine.See w) h = other_head (get_or text 0 0) 115 (ap (λ (z : List ℕ). get_or z 0 0) h.1) (omega arith, λ f. absurd (omega (arith, f)), λ f. absurd (omega (arith, f)))
+head_apart text (ScriptLine.Open w n p a) h = other_head (get_or text 0 0) 111 (ap (λ (z : List ℕ). get_or z 0 0) h.1.1) (omega arith, λ f. absurd (omega (arith, f)), λ f. absurd (omega (arith, f)))
+head_apart text (ScriptLine.Client n xs) h = other_head (get_or text 0 0) 99 (ap (λ (z : List ℕ). get_or z 0 0) h.1) (omega arith, λ f. absurd (omega (arith, f)), λ f. absurd (omega (arith, f)))
+head_apart text (ScriptLine.ClientEnd n) h = other_head (get_or text 0 0) 99 (ap (λ (z : List ℕ). get_or z 0 0) h.1) (omega arith, λ f. absurd (omega (arith, f)), λ f. absurd (omega (arith, f)))
+head_apart text (ScriptLine.TargetEnd n) h = other_head (get_or text 0 0) 116 (ap (λ (z : List ℕ). get_or z 0 0) h.1) (omega arith, λ f. absurd (omega (arith, f)), λ f. absurd (omega (arith, f)))
+head_apart text (ScriptLine.Dial n o) h = other_head (get_or text 0 0) 100 (ap (λ (z : List ℕ). get_or z 0 0) h.1) (omega arith, λ f. absurd (omega (arith, f)), λ f. absurd (omega (arith, f)))
+head_apart text (ScriptLine.Turn w n) h = other_head (get_or text 0 0) 116 (ap (λ (z : List ℕ). get_or z 0 0) h.1.1) (omega arith, λ f. absurd (omega (arith, f)), λ f. absurd (omega (arith, f)))
 head_apart text _ h = absurd h
 
 skipped_low : (text : List ℕ) → is_skipped text ≡ true → get_or text 0 0 ≤ 35
 skipped_low [] h = omega arith
 skipped_low (b ∷ bs) h = let e : b ≡ 35 = grind (arith, nat_tests, h) in let f : b ≤ 35 = omega (arith, e) in f
 
--- a line that publishes is no other line
-pub publish_apart : (text : List ℕ) (n : ℕ) (l : ScriptLine) → IsNumbered (codes "publish ") text n → Spells text l → ⊥
-publish_apart text n l h k = (head_apart text l k).1 (ap (λ (z : List ℕ). get_or z 0 0) h.1)
-
 -- a line that is skipped is no line of the script
 pub skipped_apart : (text : List ℕ) (l : ScriptLine) → is_skipped text ≡ true → Spells text l → ⊥
 skipped_apart text l h k = let a = skipped_low text h in let b = (head_apart text l k).0 in absurd (omega (arith, a, b))
 
--- nor is it one that publishes
-pub skipped_publish : (text : List ℕ) (n : ℕ) → is_skipped text ≡ true → IsNumbered (codes "publish ") text n → ⊥
-skipped_publish text n h k =
-    let a = skipped_low text h in
-    let b : get_or text 0 0 ≡ 112 = ap (λ (z : List ℕ). get_or z 0 0) k.1 in
-    absurd (omega (arith, a, b))
+-- ---- a line that counts others
+
+-- the words of such lines
+abbrev pub CountsOthers : List ℕ → Type 0
+CountsOthers word = (word ≡ publish_word) ⊎ (word ≡ users_word)
+
+counting_head : (word text : List ℕ) (n : ℕ) → CountsOthers word → IsNumbered word text n → (get_or text 0 0 ≡ 112) ⊎ (get_or text 0 0 ≡ 117)
+counting_head word text n (inl e) h = inl (ap (λ (z : List ℕ). get_or z 0 0) (h.1 ∙ ap (λ (z : List ℕ). z ++ h.0) e))
+counting_head word text n (inr e) h = inr (ap (λ (z : List ℕ). get_or z 0 0) (h.1 ∙ ap (λ (z : List ℕ). z ++ h.0) e))
+
+-- it is no other line
+pub counting_apart : (word text : List ℕ) (n : ℕ) (l : ScriptLine) → CountsOthers word → IsNumbered word text n → Spells text l → ⊥
+counting_apart word text n l w h k =
+    let a = head_apart text l k in
+    elim (counting_head word text n w h) [ inl e ↦ a.1 e | inr e ↦ a.2 e ]
+
+-- nor is it skipped
+pub counting_unskipped : (word text : List ℕ) (n : ℕ) → CountsOthers word → IsNumbered word text n → is_skipped text ≡ true → ⊥
+counting_unskipped word text n w h k =
+    let a = skipped_low text k in
+    elim (counting_head word text n w h) [ inl e ↦ absurd (omega (arith, a, e)) | inr e ↦ absurd (omega (arith, a, e)) ]
+
+-- the words differ
+pub words_apart : (text : List ℕ) (n m : ℕ) → IsNumbered publish_word text n → IsNumbered users_word text m → ⊥
+words_apart text n m h k =
+    let e : ◌≡◌ {A = ℕ} 112 117 = ap (λ (z : List ℕ). get_or z 0 0) (sym h.1 ∙ k.1) in
+    absurd (omega (arith, e))

@@ -1,16 +1,17 @@
--- Under which conditions a script's lines are served: one worker, and clients that speak SOCKS 5 to an IPv4 address or no
--- SOCKS at all.
-use Rattle.std.specs.Prelude.{◌≡◌, ◌+◌, ◌-◌, ℕ, zero, suc, Bool, true, false, not, ◌&&◌, ◌==◌, nat_le, List, [], ◌∷◌, ◌++◌, Option, Some, None, length, slice_get, slice_set}
+-- Under which conditions a script's lines are served: one worker, and clients whose input is served.
+use Rattle.std.specs.Prelude.{◌≡◌, ◌+◌, ◌-◌, ℕ, zero, suc, Bool, true, false, not, ◌&&◌, ◌==◌, List, [], ◌∷◌, ◌++◌, Option, Some, None, length, slice_get, slice_set}
+use Rattle.conf_model.specs.declared.user.User.{User}
 use Rattle.conf_model.specs.Plain.{IsPlain}
 use Rattle.rule_list.specs.Numbers.{FitsNumbers}
 use Rattle.socks_machine.specs.declared.world.Outer.{Outer}
 use Rattle.socks_machine.specs.declared.script.ScriptLine.{ScriptLine}
-use Rattle.socks_machine.specs.Served.{is_served_input, is_whole_input}
+use Rattle.socks_machine.specs.Inputs.{is_served_input}
+use Rattle.user_login.specs.UsersFile.{are_users}
 use Rattle.replay_script.specs.declared.state.Side.{Side}
 use Rattle.replay_script.specs.declared.state.State.{State}
 
 abbrev pub start : State
-start = record { published = false; seen = false; sides = [] }
+start = record { users = []; given = false; published = false; seen = false; sides = [] }
 
 abbrev pub fresh_side : Side
 fresh_side = record { c = []; end_c = false; end_t = false; dialled = false }
@@ -27,19 +28,21 @@ abbrev pub side_of : State → ℕ → Option Side
 side_of s zero = None
 side_of s (suc k) = slice_get s.sides k
 
-abbrev pub may_send : List ℕ → Side → Bool
-may_send bytes side = not side.end_c && nat_le (length side.c + length bytes) 65535 && is_served_input (side.c ++ bytes)
+-- the users come once, before the first configuration and the first association
+abbrev pub may_give : State → Bool
+may_give s = not s.given && (not s.published && length s.sides == 0)
 
-abbrev pub may_end : Side → Bool
-may_end side = not side.end_c && is_whole_input side.c
+abbrev pub may_send : List User → List ℕ → Side → Bool
+may_send users bytes side = not side.end_c && is_served_input users (side.c ++ bytes)
 
 -- whether a line keeps its condition
 abbrev pub allows : State → ScriptLine → Bool
+allows s (ScriptLine.UsersAre users) = may_give s
 allows s (ScriptLine.Publish k) = true
 allows s (ScriptLine.See w) = s.published
 allows s (ScriptLine.Open w a peer local) = a == length s.sides + 1
-allows s (ScriptLine.Client a bytes) = on_side (side_of s a) (may_send bytes)
-allows s (ScriptLine.ClientEnd a) = on_side (side_of s a) may_end
+allows s (ScriptLine.Client a bytes) = on_side (side_of s a) (may_send s.users bytes)
+allows s (ScriptLine.ClientEnd a) = on_side (side_of s a) (λ side. not side.end_c)
 allows s (ScriptLine.TargetEnd a) = on_side (side_of s a) (λ side. not side.end_t)
 allows s (ScriptLine.Dial a outer) = on_side (side_of s a) (λ side. not side.dialled)
 allows s (ScriptLine.Turn w a) = s.seen && on_side (side_of s a) (λ side. true)
@@ -56,6 +59,7 @@ change_side s a change = with_side s a change (side_of s a)
 
 -- what the lines say behind a line
 abbrev pub after : State → ScriptLine → State
+after s (ScriptLine.UsersAre users) = record s { users = users; given = true }
 after s (ScriptLine.Publish k) = record s { published = true }
 after s (ScriptLine.See w) = record s { seen = true }
 after s (ScriptLine.Open w a peer local) = record s { sides = s.sides ++ fresh_side ∷ [] }
@@ -74,6 +78,7 @@ IsServedOutcome _ = ⊥
 
 -- what is served of a line, whatever stands before it
 abbrev pub IsServedForm : ScriptLine → Type 0
+IsServedForm (ScriptLine.UsersAre users) = are_users users ≡ true
 IsServedForm (ScriptLine.Publish k) = IsPlain k × FitsNumbers k
 IsServedForm (ScriptLine.See w) = w ≡ 1
 IsServedForm (ScriptLine.Open w a peer local) = w ≡ 1

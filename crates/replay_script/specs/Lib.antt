@@ -1,7 +1,10 @@
 pub mod Conditions
 pub mod Cuts
 pub mod Forms
+pub mod Counted
 pub mod Conf
+pub mod Users
+pub mod Kinds
 pub mod PlainTests
 pub mod Script
 pub mod Laws

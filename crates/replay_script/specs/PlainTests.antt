@@ -1,17 +1,10 @@
 -- Which configurations are served, as a test.
-use Rattle.std.specs.Prelude.{Bool, true, false, List, [], ◌∷◌, is_none}
+use Rattle.std.specs.Prelude.{Bool, true, false, List, is_none}
 use Rattle.std.specs.List.{list_all}
-use Rattle.conf_model.specs.declared.protocol.Method.{Method}
 use Rattle.conf_model.specs.declared.route.Route.{Route}
 use Rattle.conf_model.specs.declared.route.Via.{Via}
 use Rattle.conf_model.specs.declared.rule.ClientRule.{ClientRule}
 use Rattle.conf_model.specs.declared.rule.SocksRule.{SocksRule}
-use Rattle.conf_model.specs.Equal.{method_eq}
-
-abbrev pub asks_no_login : List Method → Bool
-asks_no_login [] = false
-asks_no_login (m ∷ []) = method_eq m Method.NoAuth
-asks_no_login (m ∷ n ∷ ms) = false
 
 abbrev pub is_direct : Via → Bool
 is_direct Via.Direct = true

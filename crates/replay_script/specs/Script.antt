@@ -2,16 +2,17 @@
 use Rattle.std.specs.Prelude.{◌≡◌, ◌<◌, ◌≤◌, ◌+◌, ◌⊎◌, ℕ, Bool, true, false, List, [], ◌∷◌, length, codes, Result, Ok, Err, Option, Some, None}
 use denote.Ref.{Bor}
 use Rattle.conf_model.specs.declared.config.Config.{Config}
-use Rattle.conf_model.specs.declared.fault.ConfFault.{ConfFault}
+use Rattle.conf_model.specs.declared.user.User.{User}
 use Rattle.socks_machine.specs.declared.script.ScriptLine.{ScriptLine}
 use Rattle.replay_script.specs.declared.entry.Entry.{Entry}
 use Rattle.replay_script.specs.declared.fault.ScriptFault.{ScriptFault}
 use Rattle.replay_script.specs.declared.fault.ScriptKind.{ScriptKind}
 use Rattle.replay_script.specs.declared.state.State.{State}
 use Rattle.replay_script.specs.Cuts.{IsLine}
-use Rattle.replay_script.specs.Conf.{Publishes, Refuses}
+use Rattle.replay_script.specs.Conf.{Publishes, RefusesConfig}
+use Rattle.replay_script.specs.Users.{Gives, RefusesUsers}
 use Rattle.replay_script.specs.Forms.{Spells, is_skipped}
-use Rattle.replay_script.specs.Conditions.{allows, after, start}
+use Rattle.replay_script.specs.Conditions.{allows, after, may_give, start, IsServedForm}
 
 -- the text is one line of this entry
 abbrev pub SpellsEntry : List ℕ → Entry → Type 0
@@ -22,12 +23,24 @@ SpellsEntry text (Entry.Served l) = Spells text l
 abbrev pub Begins : List ℕ → Entry → ℕ → List ℕ → Type 0
 Begins text entry lines behind =
     ((line : List ℕ) × IsLine text line behind × SpellsEntry line entry × (lines ≡ 1))
-    ⊎ ((config : Config) × Publishes text config lines behind × (entry ≡ Entry.Served (ScriptLine.Publish config)))
+    ⊎ (((config : Config) × Publishes text config lines behind × (entry ≡ Entry.Served (ScriptLine.Publish config)))
+    ⊎ ((users : List User) × Gives text users lines behind × (entry ≡ Entry.Served (ScriptLine.UsersAre users))))
 
--- the text begins with nothing that is of a served form, and with no configuration that is refused
+-- the text begins with lines that count a text with a fault, of this kind
+abbrev pub RefusesText : List ℕ → ScriptKind → Type 0
+RefusesText text (ScriptKind.Conf fault) = RefusesConfig text fault
+RefusesText text (ScriptKind.Users fault) = RefusesUsers text fault
+RefusesText text _ = ⊥
+
+-- the text begins with nothing that is of a served form, and with no counted text that is refused
 pub record BeginsNothing (text : List ℕ) : Type 0 where
   pub serves : (entry : Entry) (lines : ℕ) (behind : List ℕ) → Begins text entry lines behind → ⊥
-  pub refuses : (fault : ConfFault) → Refuses text fault → ⊥
+  pub refuses : (kind : ScriptKind) → RefusesText text kind → ⊥
+
+-- what is served of an entry, whatever stands before it
+abbrev pub IsServedEntry : Entry → Type 0
+IsServedEntry Entry.Skipped = Unit {0}
+IsServedEntry (Entry.Served l) = IsServedForm l
 
 abbrev pub entry_allowed : State → Entry → Bool
 entry_allowed s Entry.Skipped = true
@@ -59,10 +72,20 @@ lines_of [] = []
 lines_of (Entry.Skipped ∷ entries) = lines_of entries
 lines_of (Entry.Served l ∷ entries) = l ∷ lines_of entries
 
--- the text begins neither with an entry that is served nor with a configuration that is refused
+-- the text of users that may not come here is not looked at
+abbrev pub is_looked_at : State → ScriptKind → Bool
+is_looked_at s (ScriptKind.Users fault) = may_give s
+is_looked_at s _ = true
+
+-- a counted text at the front of the text that is looked at, and has a fault of this kind
+pub record Refuses (s : State) (text : List ℕ) (kind : ScriptKind) : Type 0 where
+  pub faulty : RefusesText text kind
+  pub looked_at : is_looked_at s kind ≡ true
+
+-- the text begins neither with an entry that is served nor with a counted text that is refused
 pub record Fails (s : State) (text : List ℕ) : Type 0 where
   pub serves : (entry : Entry) (lines : ℕ) (behind : List ℕ) → Serves s text entry lines behind → ⊥
-  pub refuses : (fault : ConfFault) → Refuses text fault → ⊥
+  pub refuses : (kind : ScriptKind) → Refuses s text kind → ⊥
 
 abbrev pub Stuck : State → List ℕ → Type 0
 Stuck s text = (0 < length text) × Fails s text
@@ -89,20 +112,18 @@ pub record IsStuckAt (text : List ℕ) (number : ℕ) : Type 0 where
   pub reading : Reads start text 2 entries rest last number
   pub stuck : Stuck last rest
 
--- the first line behind the header that isn't served has this number, and publishes a text with this fault
-pub record IsRefusedAt (text : List ℕ) (number : ℕ) (fault : ConfFault) : Type 0 where
+-- the first line behind the header that isn't served has this number, and counts a text with a fault of this kind
+pub record IsRefusedAt (text : List ℕ) (number : ℕ) (kind : ScriptKind) : Type 0 where
   pub entries : List Entry
   pub rest : List ℕ
   pub last : State
   pub reading : Reads start text 2 entries rest last number
-  pub refuses : Refuses rest fault
+  pub refuses : Refuses last rest kind
 
 abbrev pub OnLinesFault : List ℕ → ℕ → ScriptKind → Type 0
-OnLinesFault text number ScriptKind.Length = ⊥
-OnLinesFault text number ScriptKind.Header = ⊥
-OnLinesFault text number (ScriptKind.Conf fault) = IsRefusedAt text number fault
 OnLinesFault text number ScriptKind.NotBuilt = IsStuckAt text number
 OnLinesFault text number ScriptKind.Memory = Unit {0}
+OnLinesFault text number kind = IsRefusedAt text number kind
 
 abbrev pub OnLines : List ℕ → Result (List ScriptLine) ScriptFault → Type 0
 OnLines text (Ok ls) = AreLines text ls
@@ -127,12 +148,12 @@ pub record IsNotBuilt (text : List ℕ) (number : ℕ) : Type 0 where
   pub head : IsLine text header behind
   pub stuck : IsStuckAt behind number
 
--- the first line that isn't served has this number, and publishes a text with this fault
-pub record IsRefused (text : List ℕ) (number : ℕ) (fault : ConfFault) : Type 0 where
+-- the first line that isn't served has this number, and counts a text with a fault of this kind
+pub record IsRefused (text : List ℕ) (number : ℕ) (kind : ScriptKind) : Type 0 where
   pub small : length text ≤ longest
   pub behind : List ℕ
   pub head : IsLine text header behind
-  pub refused : IsRefusedAt behind number fault
+  pub refused : IsRefusedAt behind number kind
 
 -- the first line isn't the header
 pub record IsHeaderless (text : List ℕ) (number : ℕ) : Type 0 where
@@ -143,9 +164,9 @@ pub record IsHeaderless (text : List ℕ) (number : ℕ) : Type 0 where
 abbrev pub Faulty : List ℕ → ℕ → ScriptKind → Type 0
 Faulty text number ScriptKind.Length = (longest < length text) × (number ≡ 0)
 Faulty text number ScriptKind.Header = IsHeaderless text number
-Faulty text number (ScriptKind.Conf fault) = IsRefused text number fault
 Faulty text number ScriptKind.NotBuilt = IsNotBuilt text number
 Faulty text number ScriptKind.Memory = Unit {0}
+Faulty text number kind = IsRefused text number kind
 
 abbrev pub OnRead : List ℕ → Result (List ScriptLine) ScriptFault → Type 0
 OnRead text (Ok script) = IsScript text script

@@ -2,6 +2,7 @@
 #![tactic(auto)]
 
 mod conf;
+mod counted;
 mod cuts;
 mod entry;
 mod fault;
@@ -9,6 +10,7 @@ mod forms;
 mod laws;
 mod script;
 mod state;
+mod users;
 mod values;
 
 pub use entry::Entry;

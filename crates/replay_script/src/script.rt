@@ -1,9 +1,8 @@
-ghost use Rattle.std.specs.Prelude.{◌≡◌, ◌≢◌, ◌<◌, ◌≤◌, ◌^◌, ◌++◌, [], ◌∷◌, ℕ, List as Items, length, IfErr, IfOk, OnOk, MatchOption};
+ghost use Rattle.std.specs.Prelude.{◌≡◌, ◌≢◌, ◌≤◌, ◌++◌, [], ◌∷◌, ℕ, List as Items, length, IfErr, IfOk, OnOk, MatchOption};
 ghost use Rattle.replay_script.specs.declared.entry.Entry.{Entry as SomeEntry};
-ghost use Rattle.replay_script.specs.Conf.{Refuses};
 ghost use Rattle.replay_script.specs.Conditions.{IsServed};
 ghost use Rattle.replay_script.specs.Cuts.{IsLine};
-ghost use Rattle.replay_script.specs.Script.{OnRead, OnLines, MayStep, Entered, Begins, BeginsNothing, SpellsEntry, lines_of, longest};
+ghost use Rattle.replay_script.specs.Script.{OnRead, OnLines, MayStep, Entered, Begins, BeginsNothing, IsServedEntry, Refuses, RefusesText, SpellsEntry, lines_of, longest};
 
 use crate::conf::publish;
 use crate::cuts::{first_line, same};
@@ -11,7 +10,7 @@ use crate::entry::Entry;
 use crate::fault::{ScriptFault, ScriptKind};
 use crate::forms::{is_skipped, line_of};
 use crate::state::State;
-use conf_model::{ConfFault, ConfKind};
+use crate::users::give;
 use conf_text::List;
 use socks_machine::ScriptLine;
 use std::alloc::{AllocError, Global};
@@ -45,20 +44,28 @@ fn single(alloc: Global, text: &[u8]) -> Result<Option<(Entry, &[u8])>, AllocErr
 }
 
 /// The entry at the front of a text, its count of lines, and the text behind it.
-fn begins(alloc: Global, text: &[u8]) -> Result<Option<(Entry, u64, &[u8])>, ConfFault>
+fn begins(alloc: Global, text: &[u8]) -> Result<Option<(Entry, u64, &[u8])>, ScriptKind>
     ensures begins { IfOk result (λ found. MatchOption found (BeginsNothing text.now) (λ p. Begins text.now p.0 p.1 p.2.now)) }
-    ensures refused { IfErr result (λ fault. fault.kind ≢ ConfKind.Memory → Refuses text.now fault) }
+    ensures refused { IfErr result (λ kind. kind ≢ ScriptKind.Memory → RefusesText text.now kind) }
 {
     match publish(alloc, text) {
-        Err(e) => return Err(e),
+        Err(kind) => return Err(kind),
         Ok(Some((config, lines, behind))) => {
             let entry = Entry::Served(ScriptLine::Publish(config));
             return Ok(Some((entry, lines, behind)));
         }
         Ok(None) => {}
     }
+    match give(alloc, text) {
+        Err(kind) => return Err(kind),
+        Ok(Some((users, lines, behind))) => {
+            let entry = Entry::Served(ScriptLine::UsersAre(users));
+            return Ok(Some((entry, lines, behind)));
+        }
+        Ok(None) => {}
+    }
     match single(alloc, text) {
-        Err(e) => Err(ConfFault::from(e)),
+        Err(e) => Err(ScriptKind::from(e)),
         Ok(None) => Ok(None),
         Ok(Some((entry, behind))) => Ok(Some((entry, 1, behind))),
     }
@@ -66,6 +73,7 @@ fn begins(alloc: Global, text: &[u8]) -> Result<Option<(Entry, u64, &[u8])>, Con
 
 /// Goes on behind an entry, and says whether it keeps its condition.
 fn enters(alloc: Global, state: &mut State, entry: &Entry) -> Result<bool, AllocError>
+    requires { IsServedEntry entry.now }
     ensures { IfOk result (λ done. Entered state.old state.new entry.now done) }
 {
     match entry {
@@ -74,20 +82,21 @@ fn enters(alloc: Global, state: &mut State, entry: &Entry) -> Result<bool, Alloc
     }
 }
 
-/// The served entry at the front of a text.
+/// The served entry at the front of a text. A counted text that the state doesn't look at is none.
 fn served<'a>(
     alloc: Global,
     state: &mut State,
     text: &'a [u8],
-) -> Result<Option<(Entry, u64, &'a [u8])>, ConfFault>
+) -> Result<Option<(Entry, u64, &'a [u8])>, ScriptKind>
     ensures steps { IfOk result (λ found. MayStep state.old state.new text.now found) }
-    ensures refused { IfErr result (λ fault. fault.kind ≢ ConfKind.Memory → Refuses text.now fault) }
+    ensures refused { IfErr result (λ kind. kind ≢ ScriptKind.Memory → Refuses state.old text.now kind) }
 {
     match begins(alloc, text) {
-        Err(e) => Err(e),
+        Err(kind) if state.looks_at(kind) => Err(kind),
+        Err(_) => Ok(None),
         Ok(None) => Ok(None),
         Ok(Some((entry, lines, behind))) => match enters(alloc, state, &entry) {
-            Err(e) => Err(ConfFault::from(e)),
+            Err(e) => Err(ScriptKind::from(e)),
             Ok(false) => Ok(None),
             Ok(true) => Ok(Some((entry, lines, behind))),
         },
@@ -104,21 +113,6 @@ fn add_entry(lines: &mut List<ScriptLine>, entry: Entry) -> Result<(), AllocErro
     }
 }
 
-/// The fault of a script whose configuration at this line is refused.
-fn refused(number: u64, fault: ConfFault) -> ScriptFault
-    requires { number < 2 ^ 32 }
-    ensures memory { fault.kind ≡ ConfKind.Memory → result.kind ≡ ScriptKind.Memory }
-    ensures refused { fault.kind ≢ ConfKind.Memory → (result.line ≡ number) × (result.kind ≡ ScriptKind.Conf fault) }
-{
-    match fault.kind {
-        ConfKind::Memory => ScriptFault::from(AllocError),
-        _ => ScriptFault {
-            line: number as u32,
-            kind: ScriptKind::Conf(fault),
-        },
-    }
-}
-
 /// The lines behind the header.
 fn read_lines(alloc: Global, text: &[u8]) -> Result<List<ScriptLine>, ScriptFault>
     requires { length text.now ≤ longest }
@@ -130,7 +124,12 @@ fn read_lines(alloc: Global, text: &[u8]) -> Result<List<ScriptLine>, ScriptFaul
     let mut number: u64 = 2;
     'reading: while !rest.is_empty() {
         match served(alloc, &mut state, rest) {
-            Err(fault) => return Err(refused(number, fault)),
+            Err(kind) => {
+                return Err(ScriptFault {
+                    line: number as u32,
+                    kind,
+                });
+            }
             Ok(None) => {
                 return Err(ScriptFault {
                     line: number as u32,

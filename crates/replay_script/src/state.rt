@@ -1,13 +1,21 @@
-ghost use Rattle.std.specs.Prelude.{◌≡◌, true, false, IfOk, MatchBool, MatchOption, None, Option as Maybe, ◌+◌, ◌<◌, [], length, ℕ, List as Items};
+ghost use Rattle.std.specs.Prelude.{◌≡◌, true, IfOk, MatchOption, None, ◌+◌, ◌<◌, length, ℕ};
 ghost use Rattle.addr_pattern.specs.declared.endpoint.Endpoint.{Endpoint as SomeEndpoint};
 ghost use Rattle.socks_machine.specs.declared.world.Outer.{Outer as SomeOuter};
-ghost use Rattle.socks_machine.specs.declared.script.ScriptLine.TheVariants.{Open, Client, ClientEnd, TargetEnd, Dial, Turn};
-ghost use Rattle.socks_machine.specs.Served.{is_served_input as serves, is_whole_input as ends, agrees as agree};
-ghost use Rattle.replay_script.specs.Conditions.{start, fresh_side, side_of, Allowed};
+ghost use Rattle.socks_machine.specs.declared.script.ScriptLine.TheVariants.{UsersAre, Open, Client, ClientEnd, TargetEnd, Dial, Turn};
+ghost use Rattle.replay_script.specs.Conditions.{start, fresh_side, side_of, may_give as may_give_of, Allowed, IsServedForm};
+ghost use Rattle.replay_script.specs.Script.{is_looked_at};
+ghost use Rattle.user_login.specs.UsersFile.{are_users};
 
+use crate::fault::ScriptKind;
+use conf_model::User;
 use conf_text::{List, Text};
+use handshake_core::is_served_input;
 use socks_machine::ScriptLine;
 use std::alloc::{AllocError, Global};
+use user_login::Users;
+
+/// The most bytes of a client that are served.
+const LONGEST: usize = 65_535;
 
 /// What the lines so far say of one association.
 #[derive(Drop)]
@@ -24,68 +32,14 @@ pub struct Side {
 /// What the lines so far say.
 #[derive(Drop)]
 pub struct State {
+    /// Who may log in; nobody before a line gives the users.
+    pub users: Users,
+    /// Whether a line gave the users.
+    pub given: bool,
     pub published: bool,
     pub seen: bool,
     /// The associations in their order.
     pub sides: List<Side>,
-}
-
-/// The bytes of a greeting without login and of a CONNECT to an IPv4 address (RFC 1928, sections 3 and 4), where one
-/// is wanted.
-const PRELUDE: [Option<u8>; 13] = [
-    Some(5),
-    Some(1),
-    Some(0),
-    Some(5),
-    Some(1),
-    None,
-    Some(1),
-    None,
-    None,
-    None,
-    None,
-    None,
-    None,
-];
-
-/// Whether each byte is the one that is wanted there, as far as both go.
-fn agrees(wanted: &[Option<u8>], bytes: &[u8]) -> bool
-    ensures { result ≡ agree wanted.now bytes.now }
-{
-    match wanted {
-        [] => true,
-        [first, wanted @ ..] => match bytes {
-            [] => true,
-            [byte, bytes @ ..] => match first {
-                None => agrees(wanted, bytes),
-                Some(first) => *first == *byte && agrees(wanted, bytes),
-            },
-        },
-    }
-}
-
-/// Whether the client's bytes so far are served.
-fn is_served_input(bytes: &[u8]) -> bool
-    ensures { result ≡ serves bytes.now }
-{
-    match bytes {
-        [] => true,
-        [4, ..] => false,
-        [5, ..] => agrees(&PRELUDE, bytes),
-        _ => true,
-    }
-}
-
-/// Whether the client may end behind these bytes.
-fn is_whole_input(bytes: &[u8]) -> bool
-    ensures { result ≡ ends bytes.now }
-{
-    match bytes {
-        [] => false,
-        [4, ..] => false,
-        [5, ..] => agrees(&PRELUDE, bytes) && bytes.len() >= 13,
-        _ => true,
-    }
 }
 
 impl Side {
@@ -106,6 +60,8 @@ impl State {
         ensures { result ≡ start }
     {
         State {
+            users: Users::empty(),
+            given: false,
             published: false,
             seen: false,
             sides: List::make(alloc),
@@ -135,9 +91,6 @@ impl State {
         };
         let mut side = self.sides.replace(at, Side::fresh(alloc));
         if side.end_c {
-            return false;
-        }
-        if !is_whole_input(side.c.as_slice()) {
             return false;
         }
         side.end_c = true;
@@ -185,14 +138,11 @@ impl State {
         if side.end_c {
             return Ok(false);
         }
-        if side.c.len() > 65535 {
-            return Ok(false);
-        }
-        if bytes.len() > 65535 - side.c.len() {
+        if side.c.len() > LONGEST || bytes.len() > LONGEST - side.c.len() {
             return Ok(false);
         }
         side.c.add(bytes)?;
-        if !is_served_input(side.c.as_slice()) {
+        if !is_served_input(&self.users, side.c.as_slice()) {
             return Ok(false);
         }
         self.sides.set(at, side);
@@ -218,11 +168,42 @@ impl State {
         self.place(number).is_some()
     }
 
-    /// Goes on behind a line, and says whether it keeps its condition.
+    /// Whether the users may come here.
+    fn may_give(&self) -> bool
+        ensures { result ≡ may_give_of self.now }
+    {
+        !self.given && !self.published && self.sides.len() == 0
+    }
+
+    /// Whether a counted text with a fault of this kind is looked at here.
+    pub(crate) fn looks_at(&self, kind: ScriptKind) -> bool
+        ensures { result ≡ is_looked_at self.now kind }
+    {
+        match kind {
+            ScriptKind::Users(_) => self.may_give(),
+            _ => true,
+        }
+    }
+
+    fn give(&mut self, alloc: Global, users: &[User]) -> Result<bool, AllocError>
+        requires { are_users users.now ≡ true }
+        ensures { IfOk result (λ done. Allowed self.old self.new (UsersAre users.now) done) }
+    {
+        if !self.may_give() {
+            return Ok(false);
+        }
+        self.users = Users::from_slice(alloc, users)?;
+        self.given = true;
+        Ok(true)
+    }
+
+    /// Goes on behind a line of a served form, and says whether it keeps its condition.
     pub(crate) fn step(&mut self, alloc: Global, line: &ScriptLine) -> Result<bool, AllocError>
+        requires { IsServedForm line.now }
         ensures { IfOk result (λ done. Allowed self.old self.new line.now done) }
     {
         match line {
+            ScriptLine::UsersAre(users) => self.give(alloc, users.as_slice()),
             ScriptLine::Publish(_) => {
                 self.published = true;
                 Ok(true)

@@ -4,6 +4,7 @@ use conf_text::{Text, TextFault};
 use socks_machine::{Outer, ScriptLine};
 use std::alloc::{AllocError, Global};
 use std::test::*;
+use user_login::{UsersFault, UsersKind};
 
 const HEAD: &str = "sockd-script 1\n";
 
@@ -50,8 +51,6 @@ fn the_lines_before_a_configuration(rt: HostRuntime) -> Result<(), Fail> {
         (2, "publish 18446744073709551615\ninternal: 1.2.3.4\n"),
         (2, "publish 18446744073709551616\ninternal: 1.2.3.4\n"),
         (4, "publish 1\ninternal: 1.2.3.4\nturn 1 1\n"),
-        (2, "publish 2\ninternal: 1.2.3.4\nmethod: username\n"),
-        (2, "publish 2\ninternal: 1.2.3.4\nmethod: none username\n"),
         (
             2,
             "publish 2\ninternal: 1.2.3.4\nsocks pass { session.max: 1 }\n",
@@ -63,7 +62,7 @@ fn the_lines_before_a_configuration(rt: HostRuntime) -> Result<(), Fail> {
         (2, "publish 2\ninternal: 1.2.3.4\nroute { via: 5.6.7.8 }\n"),
         (
             6,
-            "#\npublish 2\ninternal: 1.2.3.4\nroute { via: direct }\npublish 2\ninternal: 1.2.3.4\nmethod: username\n",
+            "#\npublish 2\ninternal: 1.2.3.4\nroute { via: direct }\npublish 2\ninternal: 1.2.3.4\nroute { via: 5.6.7.8 }\n",
         ),
     ] {
         let (at, kind) = fault_of(rt.alloc(), HEAD, text)?;
@@ -133,20 +132,9 @@ fn the_other_lines(rt: HostRuntime) -> Result<(), Fail> {
         (8, "client 1 050\n"),
         (8, "client 1 \n"),
         (8, "client 2 05\n"),
-        (8, "client 1 04\n"),
-        (8, "client 1 0502\n"),
-        (9, "client 1 050100\nclient 1 05020001\n"),
-        (8, "client 1 05010005010003\n"),
-        (8, "clientend 1\n"),
-        (9, "client 1 050100050100010102030400\nclientend 1\n"),
-        (
-            10,
-            "client 1 05010005010001010203040050\nclientend 1\nclientend 1\n",
-        ),
-        (
-            10,
-            "client 1 05010005010001010203040050\nclientend 1\nclient 1 00\n",
-        ),
+        (9, "clientend 1\nclientend 1\n"),
+        (9, "clientend 1\nclient 1 00\n"),
+        (8, "users 0\n"),
         (9, "targetend 1\ntargetend 1\n"),
         (8, "target 1 00\n"),
         (8, "dial 1 host\n"),
@@ -157,6 +145,178 @@ fn the_other_lines(rt: HostRuntime) -> Result<(), Fail> {
         assert_eq!(rt; at, line, "at {text}");
         assert_eq!(rt; kind, ScriptKind::NotBuilt, "at {text}");
     }
+    Ok(())
+}
+
+/// A text in which `@` stands for the digits of SHA-256 of `abc` (FIPS 180-4).
+fn with_digits(alloc: Global, short: &str) -> Result<Text, AllocError> {
+    let mut text = Text::make(alloc);
+    for byte in short.as_bytes() {
+        if *byte == b'@' {
+            text.add(b"ba7816bf8f01cfea414140de5dae2223b00361a396177a9cb410ff61f20015ad")?;
+        } else {
+            text.push(*byte)?;
+        }
+    }
+    Ok(text)
+}
+
+/// The line and the kind of a text's fault, or 0 and `Memory` for a script.
+fn read_fault(alloc: Global, text: &[u8]) -> (u32, ScriptKind) {
+    match read_script(alloc, text) {
+        Ok(_) => (0, ScriptKind::Memory),
+        Err(fault) => (fault.line, fault.kind),
+    }
+}
+
+#[test]
+fn the_users(rt: HostRuntime) -> Result<(), Fail> {
+    for (line, at, kind, text) in [
+        (2, 1, UsersKind::BadLine, "users 1\nabc\n"),
+        (3, 2, UsersKind::BadLine, "#\nusers 2\n\nusers 1\n"),
+        (2, 2, UsersKind::Repeated, "users 2\nabc:@\nabc:@"),
+    ] {
+        let text = with_digits(rt.alloc(), format!(in rt.alloc(); "{HEAD}{text}")?.as_str())?;
+        let (script_line, fault) = read_fault(rt.alloc(), text.as_slice());
+        assert_eq!(rt; script_line, line);
+        assert_eq!(rt; fault, ScriptKind::Users(UsersFault { line: at, kind }));
+    }
+    Ok(())
+}
+
+#[test]
+fn too_long_users(rt: HostRuntime) -> Result<(), Fail> {
+    let alloc = rt.alloc();
+    let mut text = Text::from_slice(alloc, b"sockd-script 1\nusers 1\n")?;
+    text.add(&vec![in alloc; b'#'; 1_048_577]?)?;
+    let (line, kind) = read_fault(alloc, text.as_slice());
+    assert_eq!(rt; line, 2);
+    assert_eq!(rt;
+        kind,
+        ScriptKind::Users(UsersFault {
+            line: 0,
+            kind: UsersKind::TooLong
+        })
+    );
+    Ok(())
+}
+
+#[test]
+fn where_users_come(rt: HostRuntime) -> Result<(), Fail> {
+    for (line, text) in [
+        (0, "users 0\n"),
+        (
+            0,
+            "#\nusers 3\n\nabc:@\n# none\nopen 1 1 10.0.0.5:5000 127.0.0.1:1080\n",
+        ),
+        (2, "users\n"),
+        (2, "users 01\nabc:@\n"),
+        (2, "users 1\n"),
+        (2, "users 2\nabc:@\n"),
+        (4, "users 1\nabc:@\nusers 1\nabd:@\n"),
+        (3, "users 0\nusers 1\nabc\n"),
+        (4, "publish 1\ninternal: 1.2.3.4\nusers 1\nabc\n"),
+        (3, "open 1 1 10.0.0.5:5000 127.0.0.1:1080\nusers 0\n"),
+    ] {
+        let script = with_digits(rt.alloc(), format!(in rt.alloc(); "{HEAD}{text}")?.as_str())?;
+        let (at, kind) = read_fault(rt.alloc(), script.as_slice());
+        let wanted = if line == 0 {
+            ScriptKind::Memory
+        } else {
+            ScriptKind::NotBuilt
+        };
+        assert_eq!(rt; at, line, "at {text}");
+        assert_eq!(rt; kind, wanted, "at {text}");
+    }
+    Ok(())
+}
+
+/// A greeting and a request in hexadecimal digits (RFC 1928, sections 3 and 4), a login (RFC 1929, section 2), and requests
+/// of the SOCKS 4 and 4A memos. The user is `abc` with the password `abc`.
+#[test]
+fn what_clients_send(rt: HostRuntime) -> Result<(), Fail> {
+    let front = "sockd-script 1\nusers 1\nabc:@\nopen 1 1 10.0.0.5:5000 127.0.0.1:1080\n";
+    for (line, text) in [
+        (
+            0,
+            "client 1 05010005010001010203040050\nclient 1 00\nclientend 1\n",
+        ),
+        (
+            0,
+            "client 1 0501000501000420010db80000000000000000000000010050\n",
+        ),
+        (5, "client 1 05010005020001010203040050\n"),
+        (6, "client 1 050100050200\nclient 1 01010203040050\n"),
+        (5, "client 1 05010005030001010203040050\n"),
+        (6, "client 1 0501\nclient 1 0005030001010203040050\n"),
+        (5, "client 1 0501000501000306612e746573740050\n"),
+        (6, "client 1 0501000501000306612e74657374\nclient 1 0050\n"),
+        (0, "client 1 0501000501000307312e322e332e340050\n"),
+        (0, "client 1 040100500102030400\n"),
+        (5, "client 1 040200500102030400\n"),
+        (5, "client 1 04010050000000016100612e7465737400\n"),
+        (
+            6,
+            "client 1 04010050000000016100\nclient 1 612e7465737400\n",
+        ),
+        (0, "client 1 04010050000000016100312e322e332e3400\n"),
+        (
+            0,
+            "client 1 050102010361626303616263\nclient 1 05010001010203040050\n",
+        ),
+        (
+            6,
+            "client 1 050102010361626303616263\nclient 1 05020001010203040050\n",
+        ),
+        (
+            0,
+            "client 1 050102010361626303616264\nclient 1 05020001010203040050\n",
+        ),
+        (0, "client 1 05010005\nclientend 1\n"),
+        (0, "client 1 474554\n"),
+        (
+            0,
+            "client 1 050100050400\nclient 1 05010005020001010203040050\n",
+        ),
+    ] {
+        let script = with_digits(
+            rt.alloc(),
+            format!(in rt.alloc(); "{front}{text}")?.as_str(),
+        )?;
+        let (at, kind) = read_fault(rt.alloc(), script.as_slice());
+        let wanted = if line == 0 {
+            ScriptKind::Memory
+        } else {
+            ScriptKind::NotBuilt
+        };
+        assert_eq!(rt; at, line, "at {text}");
+        assert_eq!(rt; kind, wanted, "at {text}");
+    }
+    Ok(())
+}
+
+#[test]
+fn how_much_clients_send(rt: HostRuntime) -> Result<(), Fail> {
+    let mut text = Text::from_slice(rt.alloc(), RULES.as_bytes())?;
+    text.add(b"client 1 ")?;
+    for _ in 0..65_535 {
+        text.add(b"47")?;
+    }
+    assert_eq!(rt;
+        read_fault(rt.alloc(), text.as_slice()),
+        (0, ScriptKind::Memory)
+    );
+    text.add(b"47")?;
+    assert_eq!(rt;
+        read_fault(rt.alloc(), text.as_slice()),
+        (8, ScriptKind::NotBuilt)
+    );
+    text.truncate(text.len() - 2);
+    text.add(b"\nclient 1 47")?;
+    assert_eq!(rt;
+        read_fault(rt.alloc(), text.as_slice()),
+        (9, ScriptKind::NotBuilt)
+    );
     Ok(())
 }
 
@@ -176,20 +336,21 @@ fn too_long(rt: HostRuntime) -> Result<(), Fail> {
 /// The number of a line's form, in the order of the test below, or 0.
 fn form(line: &ScriptLine) -> u32 {
     match line {
+        ScriptLine::UsersAre(users) if users.len() == 1 => 1,
         ScriptLine::Publish(config) => match config.socks.as_slice() {
-            [first, second] if first.pass && !second.pass => 1,
-            [] if config.routes.len() == 1 => 11,
+            [first, second] if first.pass && !second.pass => 2,
+            [] if config.routes.len() == 1 && config.methods.len() == 2 => 12,
             _ => 0,
         },
-        ScriptLine::See(1) => 2,
-        ScriptLine::Open(1, 1, _, _) => 3,
-        ScriptLine::Client(1, bytes) if bytes.as_slice() == [0x47, 0xab].as_slice() => 4,
-        ScriptLine::ClientEnd(1) => 5,
-        ScriptLine::TargetEnd(1) => 6,
-        ScriptLine::Open(1, 2, _, _) => 7,
-        ScriptLine::Dial(1, Outer::Refused) => 8,
-        ScriptLine::Dial(2, Outer::Up(at)) if at.port == 40_000 => 9,
-        ScriptLine::Turn(1, 2) => 10,
+        ScriptLine::See(1) => 3,
+        ScriptLine::Open(1, 1, _, _) => 4,
+        ScriptLine::Client(1, bytes) if bytes.as_slice() == [0x47, 0xab].as_slice() => 5,
+        ScriptLine::ClientEnd(1) => 6,
+        ScriptLine::TargetEnd(1) => 7,
+        ScriptLine::Open(1, 2, _, _) => 8,
+        ScriptLine::Dial(1, Outer::Refused) => 9,
+        ScriptLine::Dial(2, Outer::Up(at)) if at.port == 40_000 => 10,
+        ScriptLine::Turn(1, 2) => 11,
         _ => 0,
     }
 }
@@ -197,17 +358,18 @@ fn form(line: &ScriptLine) -> u32 {
 #[test]
 fn every_form(rt: HostRuntime) -> Result<(), Fail> {
     let text =
-        "sockd-script 1\n# a script\n\npublish 4\ninternal: 127.0.0.1 port = 1080\nclient pass { from: 0/0 to: 0/0 }\nsocks pass { from: 0.0.0.0/0 to: 10.0.0.0/8 }\nsocks block { from: 1.2.3.4 to: 0/0 }\nsee 1\n#see 2\nopen 1 1 10.0.0.5:5000 127.0.0.1:1080\nclient 1 47aB\nclientend 1\ntargetend 1\nopen 1 2 [2001:db8::5]:5000 [::1]:1080\ndial 1 refused\ndial 2 up [2001:db8::9]:40000\nturn 1 2\npublish 3\ninternal: ::1\nroute { to: .example\nvia: direct }";
-    match read_script(rt.alloc(), text.as_bytes()) {
+        "sockd-script 1\n# a script\n\nusers 2\n# one\nabc:@\npublish 4\ninternal: 127.0.0.1 port = 1080\nclient pass { from: 0/0 to: 0/0 }\nsocks pass { from: 0.0.0.0/0 to: 10.0.0.0/8 }\nsocks block { from: 1.2.3.4 to: 0/0 }\nsee 1\n#see 2\nopen 1 1 10.0.0.5:5000 127.0.0.1:1080\nclient 1 47aB\nclientend 1\ntargetend 1\nopen 1 2 [2001:db8::5]:5000 [::1]:1080\ndial 1 refused\ndial 2 up [2001:db8::9]:40000\nturn 1 2\npublish 4\ninternal: ::1\nmethod: username none\nroute { to: .example\nvia: direct }";
+    let script = with_digits(rt.alloc(), text)?;
+    match read_script(rt.alloc(), script.as_slice()) {
         Err(fault) => assert_eq!(rt; fault.line, 0, "a script that is served was refused"),
         Ok(lines) => {
             let mut number = 0u32;
             for line in lines.as_slice() {
-                assert!(rt; number < 11);
+                assert!(rt; number < 12);
                 number += 1;
                 assert_eq!(rt; form(line), number);
             }
-            assert_eq!(rt; number, 11);
+            assert_eq!(rt; number, 12);
         }
     }
     Ok(())

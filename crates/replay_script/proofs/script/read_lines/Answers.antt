@@ -7,8 +7,7 @@ use Rattle.replay_script.proofs.script.read_lines.Goals as goal
 
 pub returns-in-Err : goal.returns-in-Err
 returns-in-Err c =
-    lines_refused c.args.text.now c.reading.lines c.reading.rest.now c.reading.state c.reading.number c.in-Err.fault c.refused.result.line c.refused.result.kind
-    c.reading.invariant.so_far c.in-Err.ensures.refused c.refused.ensures.memory c.refused.ensures.refused
+    lines_refused c.args.text.now c.reading.lines c.reading.rest.now c.reading.state c.reading.number c.in-Err.kind c.reading.invariant.so_far c.in-Err.ensures.refused
 
 pub overflow_add-number : goal.overflow_add-number
 overflow_add-number c =

@@ -1,23 +1,36 @@
-use Rattle.std.proofs.Common.{◌≡◌, ◌+◌, ◌≤◌, ℕ, true, List, ◌++◌, length, slice_set, sym, ap, ◌∙◌, arith}
-use Rattle.std.proofs.lemmas.Bool.Decides.{nat_tests}
+use Rattle.std.proofs.Common.{◌≡◌, ◌<◌, ◌+◌, ℕ, true, false, List, ◌++◌, length, slice_set, sym, ap, ◌∙◌, arith}
 use Rattle.replay_script.specs.declared.state.Side.{Side}
-use Rattle.socks_machine.specs.Served.{is_served_input}
+use Rattle.socks_machine.specs.Inputs.{is_served_input}
 use Rattle.replay_script.specs.Conditions.{may_send}
-use Rattle.replay_script.proofs.Sides.{tested, changed}
+use Rattle.replay_script.proofs.Sides.{tested, changed, too_long}
 use Rattle.replay_script.proofs.state.State.client.Goals as goal
+use Rattle.replay_script.proofs.state.State.client.Goals.{then-len-gt-LONGEST-via-then-len-gt-LONGEST, then-len-gt-LONGEST-via-else-len-gt-LONGEST+then-bytes-len}
 
 pub returns : goal.returns
 returns c =
-    let old = c.replace-side.result in
-    let bytes = c.args.bytes.now in
     let added : c.add.new.self ≡ c.replace-side.result.c ++ c.args.bytes.now = c.in_ok-add.ensures.ok in
     let change : Side → Side = λ side. record side { c = side.c ++ c.args.bytes.now } in
-    let fits : length c.replace-side.result.c + length c.args.bytes.now ≤ 65535 = omega arith in
-    let served : is_served_input (c.replace-side.result.c ++ c.args.bytes.now) ≡ true =
-    ap is_served_input (sym (c.as_slice.ensures ∙ added)) ∙ (sym c.is_served_input.ensures ∙ c.if-not-is_served_input.false) in
-    let test : may_send c.args.bytes.now c.replace-side.result ≡ true = grind (arith, nat_tests, c.if-side.false, fits, served) in
+    let served : is_served_input c.args.self.now.users (c.replace-side.result.c ++ c.args.bytes.now) ≡ true =
+    ap (is_served_input c.args.self.now.users) (sym (c.as_slice.ensures ∙ added)) ∙ (sym c.is_served_input.ensures ∙ c.if-not-is_served_input.false) in
+    let test : may_send c.args.self.now.users c.args.bytes.now c.replace-side.result ≡ true = rw c.if-side.false served in
     let put : c.set.new.self ≡ slice_set c.replace-side.new.self c.in-Some.at (change c.replace-side.result) =
     c.set.ensures ∙ ap (λ (z : List ℕ). slice_set c.replace-side.new.self c.in-Some.at (let t : Side = record c.replace-side.result { c = z } in t)) added in (
       tested c.args.self.now c.args.number c.in-Some.at c.replace-side.result _ c.in-Some.ensures.0 c.replace-side.ensures.value ∙ test,
       changed c.args.self.now c.args.number c.in-Some.at change c.replace-side.result _ _ _ c.in-Some.ensures.0 c.replace-side.ensures.value c.replace-side.ensures.after put,
     )
+
+pub returns-then-len-gt-LONGEST : goal.returns-then-len-gt-LONGEST
+returns-then-len-gt-LONGEST c =
+    let long : 65535 < length c.replace-side.result.c + length c.args.bytes.now = elim c.then-len-gt-LONGEST.branch [
+      | then-len-gt-LONGEST-via-then-len-gt-LONGEST w ↦ omega arith
+      | then-len-gt-LONGEST-via-else-len-gt-LONGEST+then-bytes-len w ↦ omega arith
+    ] in
+    tested c.args.self.now c.args.number c.in-Some.at c.replace-side.result _ c.in-Some.ensures.0 c.replace-side.ensures.value ∙ too_long c.args.self.now.users c.replace-side.result c.args.bytes.now long
+
+pub returns-then-not-is_served_input : goal.returns-then-not-is_served_input
+returns-then-not-is_served_input c =
+    let added : c.add.new.self ≡ c.replace-side.result.c ++ c.args.bytes.now = c.in_ok-add.ensures.ok in
+    let unserved : is_served_input c.args.self.now.users (c.replace-side.result.c ++ c.args.bytes.now) ≡ false =
+    ap (is_served_input c.args.self.now.users) (sym (c.as_slice.ensures ∙ added)) ∙ (sym c.is_served_input.ensures ∙ c.if-not-is_served_input.true) in
+    let test : may_send c.args.self.now.users c.args.bytes.now c.replace-side.result ≡ false = rw c.if-side.false unserved in
+    tested c.args.self.now c.args.number c.in-Some.at c.replace-side.result _ c.in-Some.ensures.0 c.replace-side.ensures.value ∙ test

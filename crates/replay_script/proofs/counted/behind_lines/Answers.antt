@@ -1,7 +1,7 @@
 use Rattle.std.proofs.Common.{◌≡◌, ℕ, arith, refl, subst}
-use Rattle.replay_script.specs.Conf.{IsBehindLines}
-use Rattle.replay_script.proofs.Publishing.{more_lines, fewer_lines, no_line_left}
-use Rattle.replay_script.proofs.conf.behind_lines.Goals as goal
+use Rattle.replay_script.specs.Counted.{IsBehindLines}
+use Rattle.replay_script.proofs.Counting.{more_lines, fewer_lines, no_line_left}
+use Rattle.replay_script.proofs.counted.behind_lines.Goals as goal
 
 pub counting-init : goal.counting-init
 counting-init c = record { first = λ behind h. h; last = λ behind h. h }

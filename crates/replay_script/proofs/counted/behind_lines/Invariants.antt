@@ -1,6 +1,6 @@
 use Rattle.std.proofs.Common.{ℕ, List}
-use Rattle.replay_script.specs.Conf.{IsBehindLines}
-use Rattle.replay_script.proofs.conf.behind_lines.Given as goal
+use Rattle.replay_script.specs.Counted.{IsBehindLines}
+use Rattle.replay_script.proofs.counted.behind_lines.Given as goal
 
 abbrev pub invariant-counting : goal.invariant-counting
 invariant-counting l = record {
