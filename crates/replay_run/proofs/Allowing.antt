@@ -39,7 +39,7 @@ use Rattle.std.specs.List.{list_all}
 use Rattle.std.specs.Prelude.{option_and_then}
 use Rattle.assoc_core.specs.declared.assoc.Assoc.{Assoc}
 use Rattle.assoc_core.specs.declared.assoc.Next.{Next}
-use Rattle.assoc_core.specs.Plain.{owed_c, owed_t}
+use Rattle.assoc_core.specs.Plain.{owed_c, owed_t, prelude_of}
 use Rattle.assoc_core.specs.Stands.{HoldsTarget}
 use Rattle.assoc_core.specs.Turns.{Turns, event_of, links, mark_of, left_of, context, IsOuterOf, IsFull, IsIdle, IsThereAnd, SameTarget, StopsReading, Unread, ReadsEnd, outer_of, IsUnfailing}
 use Rattle.replay_run.specs.Mirrors.{IsGoing, TargetMirrors}
@@ -107,8 +107,7 @@ pub record Turning : Type 1 where
   pub stands' : List Line → List StopBy → Type 0
   pub now : s.now ≡ 0
   pub marks : last_mark w.marks ≡ None
-  pub pubs : List Config
-  pub going : IsGoing pubs n a net o
+  pub going : IsGoing (basis_of w) n a net o
   pub turns : Turns told_of_link (λ (l : LinkInMemory). l.counts) stands' (context w.users w.pubs generation config w.cap w.h w.marks) 0 (told_of_net net) (told_of_net net') a next
   pub stepped : step w (Event.Turn (event_of 1 a.state.number 0 turns.acts (mark_of next))) ≡ Some new
   pub behind' : numbered new.records a.state.number ≡ Some (turns.result).left
@@ -163,7 +162,7 @@ not-full-c k = not-true k.turns.acts.full_c (λ h.
     let taken : length (client' k).taken ≡ length (left k).sent_c = ap length (k.turns.client.taken' (client' k).taken refl) in
     let same : (client' k).cap ≡ k.a.client.cap = same-cap k.a.client (client' k) k.turns.same_client in
     let room : 64 ≤ k.a.client.cap = k.going.cap in
-    let owed : length (owed_c (left k)) ≤ 34 + length (left k).t = owed-c-short (left k).c (left k).t (left k).chosen _ (left k).cause in
+    let owed : length (owed_c (left k)) ≤ 36 + length (left k).t = owed-c-short (left k).c (left k).t (left k).chosen _ (left k).cause in
     let none : length (left k).t ≡ 0 = ap length (nothing-from-target k) in
     let below : length (left k).sent_c < length (owed_c (left k)) = f.2 in
     absurd (omega (arith, cap, taken, same, room, owed, none, below)))
@@ -176,7 +175,7 @@ full-target k (Some l) h same full below =
     let cap : l.cap ≤ length l.taken = full l.cap l.taken refl refl in
     let taken : length l.taken ≡ length (left k).sent_t = ap length (h.1.taken' l.taken refl) in
     let room : length k.o.c ≤ l.cap = is.cap in
-    let owed : length (owed_t (left k)) ≤ length (left k).c = owed-t-short (left k).c _ in
+    let owed : length (owed_t (left k)) ≤ length (left k).c = owed-t-short (prelude_of (left k)) (left k).c _ in
     let all : length (left k).c ≡ length (k.a.state.c ++ k.turns.acts.c) = ap length k.turns.c in
     let arrived : length (k.a.state.c ++ k.turns.acts.c) ≤ length k.o.c = prefix-short _ _ (reads-arrived-c k) in
     absurd (omega (arith, cap, taken, room, owed, all, arrived, below))

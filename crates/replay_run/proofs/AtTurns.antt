@@ -16,17 +16,17 @@ use Rattle.socks_machine.specs.declared.world.Event.{Event}
 use Rattle.socks_machine.specs.declared.world.NextMark.{NextMark}
 use Rattle.socks_machine.specs.declared.world.TurnEvent.{TurnEvent}
 use Rattle.socks_machine.specs.declared.world.World.{World}
-use Rattle.socks_machine.specs.Basis.{Basis}
 use Rattle.socks_machine.specs.History.{last_mark}
 use Rattle.socks_machine.specs.Phase.{is_udp}
 use Rattle.socks_machine.specs.Script.{Outside, Surroundings}
-use Rattle.socks_machine.specs.Served.{is_served_input}
+use Rattle.socks_machine.specs.Inputs.{is_served_input}
+use Rattle.socks_machine.specs.Step.{basis_of}
 use Rattle.socks_machine.specs.Transcript.{event_line, turn_line}
 use Rattle.assoc_core.specs.declared.assoc.Assoc.{Assoc}
 use Rattle.assoc_core.specs.declared.assoc.Ended.{Ended}
 use Rattle.assoc_core.specs.declared.assoc.Next.{Next}
 use Rattle.assoc_core.specs.Turns.{Turns, GoesOn, context, event_of, left_of, mark_of}
-use Rattle.assoc_core.proofs.RelayRecords.{plain-tcp}
+use Rattle.replay_run.proofs.Tcp.{plain-tcp}
 use Rattle.replay_run.specs.declared.slot.Slot.{Slot}
 use Rattle.replay_run.specs.declared.state.Replay.{Replay}
 use Rattle.replay_run.specs.declared.totals.Totals.{Totals}
@@ -45,10 +45,10 @@ left-is (Next.Wait a) = refl
 left-is (Next.Again a) = refl
 left-is (Next.Done e) = refl
 
-left-tcp : (next : Next LinkInMemory) → GoesOn next → is_udp (left_record next) ≡ false
-left-tcp (Next.Wait a) h = plain-tcp a.state h
-left-tcp (Next.Again a) h = plain-tcp a.state h
-left-tcp (Next.Done e) h = h.1
+left-tcp : (users : List User) (next : Next LinkInMemory) → GoesOn users next → is_udp (left_record next) ≡ false
+left-tcp users (Next.Wait a) h = plain-tcp users a.state h
+left-tcp users (Next.Again a) h = plain-tcp users a.state h
+left-tcp users (Next.Done e) h = h.1
 
 goes-over : (ev : TurnEvent) (next : Next LinkInMemory) → ev.next ≡ mark_of next → is_over (Event.Turn ev) ≡ true
 goes-over ev next h = ap (λ (m : NextMark). is_over (Event.Turn (record ev { next = m }))) h ∙ by-mark next
@@ -67,14 +67,14 @@ unfolding turn_shown
 shown world g ev r h = h
 
 -- the turn that the script allows at this place, once it is known for the world that the replay stands for
-turned-at : (config : Config) (k : ℕ) (old new : Replay) (a : Assoc LinkInMemory) (net net' : NetInMemory) (next : Next LinkInMemory) (still : Bool) (before : Totals)
+turned-at : (users : List User) (config : Config) (k : ℕ) (old new : Replay) (a : Assoc LinkInMemory) (net net' : NetInMemory) (next : Next LinkInMemory) (still : Bool) (before : Totals)
     → slice_get old.slots k ≡ Some (Slot.Going a net) → before ≡ totals_of a.state
-    → MakesTurn (old.gens).seen config old.desk new.desk a net next net' → WritesTurn (old.gens).seen before next old.out new.out still
+    → MakesTurn users (old.gens).seen config old.desk new.desk a net next net' → WritesTurn (old.gens).seen before next old.out new.out still
     → new.slots ≡ slice_set old.slots k (slot_of next net') → new.gens ≡ old.gens → numbered (old.gens).configs (old.gens).seen ≡ Some config
-    → (s : Surroundings) (w : World) → Mirrors (StandsFor old.desk) old.desk.cap s w old.gens old.slots
+    → (s : Surroundings) (w : World) → Mirrors users (StandsFor old.desk) old.desk.cap s w old.gens old.slots
     → Turns told_of_link (λ (l : LinkInMemory). l.counts) (StandsFor new.desk) (context w.users w.pubs (old.gens).seen config w.cap w.h w.marks) 0 (told_of_net net) (told_of_net net') a next
-    → IsTurned s w k old new still
-turned-at config k old new a net net' next still before at totals makes writes slots gens is-config s w m t = record {
+    → IsTurned users s w k old new still
+turned-at users config k old new a net net' next still before at totals makes writes slots gens is-config s w m t = record {
   ev = ev;
   left = left;
   world = r.new;
@@ -82,13 +82,13 @@ turned-at config k old new a net net' next still before at totals makes writes s
   stepped = r.stepped;
   used = r.used;
   over = goes-over ev next refl;
-  mirrors = subst (λ (z : Generations). Mirrors (StandsFor new.desk) new.desk.cap s r.new z new.slots) (sym gens)
-      (subst (λ (z : List Slot). Mirrors (StandsFor new.desk) new.desk.cap s r.new old.gens z) (sym slots)
-      (subst (λ (n : ℕ). Mirrors (StandsFor new.desk) n s r.new old.gens (slice_set old.slots k (slot_of next net'))) (sym makes.cap) r.mirrors));
+  mirrors = subst (λ (z : Generations). Mirrors users (StandsFor new.desk) new.desk.cap s r.new z new.slots) (sym gens)
+      (subst (λ (z : List Slot). Mirrors users (StandsFor new.desk) new.desk.cap s r.new old.gens z) (sym slots)
+      (subst (λ (n : ℕ). Mirrors users (StandsFor new.desk) n s r.new old.gens (slice_set old.slots k (slot_of next net'))) (sym makes.cap) r.mirrors));
   still' = writes.still' ev refl refl refl took_c took_t put_c put_t;
   line = shown r.new (old.gens).seen ev left r.line';
   out = subst (λ (x : Record). new.out ≡ old.out ++ turn_shown (old.gens).seen ev x) is
-      (writes.written ev refl (sym (ap (λ (x : Record). x.number) is ∙ t.number)) refl (left-tcp next t.goes_on) took_c took_t put_c put_t);
+      (writes.written ev refl (sym (ap (λ (x : Record). x.number) is ∙ t.number)) refl (left-tcp w.users next t.goes_on) took_c took_t put_c put_t);
   gens = gens;
   others = r.others;
   count = (slot_of next net', slots);
@@ -106,8 +106,8 @@ turned-at config k old new a net net' next still before at totals makes writes s
     mark : last_mark (t.result).marks ≡ None
     mark = sym (t.desk).mark ∙ makes.mark
 
-    r : Turned.IsTurned s w old.gens old.slots k ev (slot_of next net') left (StandsFor new.desk) old.desk.cap
-    r = turned s w old.gens config old.slots k a net net' next (StandsFor old.desk) (StandsFor new.desk) old.desk.cap m is-config at t mark
+    r : Turned.IsTurned users s w old.gens old.slots k ev (slot_of next net') left (StandsFor new.desk) old.desk.cap
+    r = turned users s w old.gens config old.slots k a net net' next (StandsFor old.desk) (StandsFor new.desk) old.desk.cap m is-config at t mark
 
     took_c : length (left_record next).c ≡ before.took_c + length ev.c
     took_c = longer (left_record next).c a.state.c ev.c before.took_c (ap (λ (x : Record). x.c) is ∙ t.c) (ap (λ (x : Totals). x.took_c) totals)
@@ -122,45 +122,45 @@ turned-at config k old new a net net' next still before at totals makes writes s
     put_t = ap (λ (x : Record). length x.sent_t) is ∙ (t.sent_t ∙ ap (λ n. n + ev.sent_t) (sym (ap (λ (x : Totals). x.sent_t) totals)))
 
 -- what the association's outside gives for its turn
-the-turns : (config : Config) (k : ℕ) (old new : Replay) (a : Assoc LinkInMemory) (net net' : NetInMemory) (next : Next LinkInMemory)
-    → slice_get old.slots k ≡ Some (Slot.Going a net) → MakesTurn (old.gens).seen config old.desk new.desk a net next net' → numbered (old.gens).configs (old.gens).seen ≡ Some config
-    → (s : Surroundings) (w : World) → Mirrors (StandsFor old.desk) old.desk.cap s w old.gens old.slots → IsPlain config
+the-turns : (users : List User) (config : Config) (k : ℕ) (old new : Replay) (a : Assoc LinkInMemory) (net net' : NetInMemory) (next : Next LinkInMemory)
+    → slice_get old.slots k ≡ Some (Slot.Going a net) → MakesTurn users (old.gens).seen config old.desk new.desk a net next net' → numbered (old.gens).configs (old.gens).seen ≡ Some config
+    → (s : Surroundings) (w : World) → Mirrors users (StandsFor old.desk) old.desk.cap s w old.gens old.slots → IsPlain config
     → Turns told_of_link (λ (l : LinkInMemory). l.counts) (StandsFor new.desk) (context w.users w.pubs (old.gens).seen config w.cap w.h w.marks) 0 (told_of_net net) (told_of_net net') a next
-the-turns config k old new a net net' next at makes is-config s w m plain =
+the-turns users config k old new a net net' next at makes is-config s w m plain =
     subst (λ (n : ℕ). Turns told_of_link (λ (l : LinkInMemory). l.counts) (StandsFor new.desk) (context w.users w.pubs (old.gens).seen config n w.h w.marks) 0 (told_of_net net) (told_of_net net') a next) m.cap'
-    (makes.turns w.users w.pubs w.h w.marks m.desk (subst (λ (z : Basis). Stands told_of_link z a) (sym over) going.stands) (record {
+    (over.turns w.pubs w.h w.marks m.desk going.stands (record {
       arrival = record { bytes = a.client.arrived; ends = a.client.ends };
       given = a.client.given;
       arrived' = refl;
       given' = refl;
-      served = ap is_served_input going.arrived ∙ going.served;
+      served = ap (is_served_input w.users) going.arrived ∙ going.served;
     }) shown' plain going.since)
   where
-    found : (o : Outside) × (slice_get s.outsides k ≡ Some o) × IsSlot (old.gens).configs (1 + k) (Slot.Going a net) o
-    found = slot-at (old.gens).configs 1 old.slots s.outsides k (Slot.Going a net) m.slots' at
+    found : (o : Outside) × (slice_get s.outsides k ≡ Some o) × IsSlot (basis_of w) (1 + k) (Slot.Going a net) o
+    found = slot-at (basis_of w) 1 old.slots s.outsides k (Slot.Going a net) m.slots' at
 
-    going : IsGoing (old.gens).configs (1 + k) a net found.0
+    going : IsGoing (basis_of w) (1 + k) a net found.0
     going = found.2
 
-    over : socks w.users w.pubs ≡ socks [] (old.gens).configs
-    over = ap (λ (us : List User). socks us w.pubs) m.users ∙ ap (λ (ks : List Config). socks [] ks) m.pubs
+    over : MakesTurn w.users (old.gens).seen config old.desk new.desk a net next net'
+    over = subst (λ (us : List User). MakesTurn us (old.gens).seen config old.desk new.desk a net next net') (sym m.users') makes
 
     shown' : numbered w.pubs (old.gens).seen ≡ Some config
     shown' = ap (λ (z : List Config). numbered z (old.gens).seen) m.pubs ∙ is-config
 
 -- one that has ended was put back
-pub turns-over : (k : ℕ) (old : Replay) (slots : List Slot) (e : Ended LinkInMemory) → slice_get old.slots k ≡ Some (Slot.Over e) → slots ≡ old.slots
-    → TurnsAt k old (record { desk = old.desk; gens = old.gens; slots = slots; out = old.out }) true (Some (Slot.Over e))
-turns-over k old slots e at h = (ap (λ (xs : List Slot). let new : Replay = record { desk = old.desk; gens = old.gens; slots = xs; out = old.out } in new) h, refl)
+pub turns-over : (users : List User) (k : ℕ) (old : Replay) (slots : List Slot) (e : Ended LinkInMemory) → slice_get old.slots k ≡ Some (Slot.Over e) → slots ≡ old.slots
+    → TurnsAt users k old (record { desk = old.desk; gens = old.gens; slots = slots; out = old.out }) true (Some (Slot.Over e))
+turns-over users k old slots e at h = (ap (λ (xs : List Slot). let new : Replay = record { desk = old.desk; gens = old.gens; slots = xs; out = old.out } in new) h, refl)
 
-pub turns-at : (config : Config) (k : ℕ) (old new : Replay) (a : Assoc LinkInMemory) (net net' : NetInMemory) (next : Next LinkInMemory) (still : Bool) (before : Totals)
+pub turns-at : (users : List User) (config : Config) (k : ℕ) (old new : Replay) (a : Assoc LinkInMemory) (net net' : NetInMemory) (next : Next LinkInMemory) (still : Bool) (before : Totals)
     → slice_get old.slots k ≡ Some (Slot.Going a net) → before ≡ totals_of a.state
-    → MakesTurn (old.gens).seen config old.desk new.desk a net next net' → WritesTurn (old.gens).seen before next old.out new.out still
+    → MakesTurn users (old.gens).seen config old.desk new.desk a net next net' → WritesTurn (old.gens).seen before next old.out new.out still
     → new.slots ≡ slice_set old.slots k (slot_of next net') → new.gens ≡ old.gens → numbered (old.gens).configs (old.gens).seen ≡ Some config → IsPlain config
-    → TurnsAt k old new still (Some (Slot.Going a net))
-turns-at config k old new a net net' next still before at totals makes writes slots gens is-config plain = λ s w m.
-    turned-at config k old new a net net' next still before at totals makes writes slots gens is-config s w m
-    (the-turns config k old new a net net' next at makes is-config s w m plain)
+    → TurnsAt users k old new still (Some (Slot.Going a net))
+turns-at users config k old new a net net' next still before at totals makes writes slots gens is-config plain = λ s w m.
+    turned-at users config k old new a net net' next still before at totals makes writes slots gens is-config s w m
+    (the-turns users config k old new a net net' next at makes is-config s w m plain)
 
 -- ---- the configuration of a turn
 

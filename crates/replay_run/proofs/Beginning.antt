@@ -1,4 +1,4 @@
--- Where a script that is served begins: no users, one worker, and nothing published.
+-- Where a script that is served begins: its users, one worker, and nothing published.
 use Rattle.std.proofs.Common.{◌≡◌, ap, refl, List, [], ◌∷◌, arith}
 use Rattle.std.proofs.lemmas.List.Elements.{All-nil}
 use Rattle.generation.specs.Published.{none_published}
@@ -9,36 +9,12 @@ use Rattle.socks_machine.specs.Follows.{begins, users_of, workers_of, opens_of}
 use Rattle.socks_machine.specs.Script.{first_surroundings}
 use Rattle.socks_machine.specs.Step.{start as begun}
 use Rattle.replay_script.specs.declared.state.State.{State}
-use Rattle.replay_script.specs.Conditions.{IsServed, IsServedFrom, after, start}
+use Rattle.replay_script.specs.Conditions.{IsServed, IsServedFrom, start}
 use Rattle.replay_run.specs.Behind.{IsBehind}
 use Rattle.replay_run.specs.Mirrors.{IsConfigured}
 use Rattle.replay_run.proofs.Playing.{plays-none}
 
--- no line that is served gives users
-no-users : (state : State) (ls : List ScriptLine) → IsServedFrom state ls → users_of ls ≡ []
-no-users state [] h = refl
-no-users state (ScriptLine.Workers n ∷ ls) h = absurd h.0
-no-users state (ScriptLine.UsersAre us ∷ ls) h = absurd h.0
-no-users state (ScriptLine.Publish k ∷ ls) h = no-users (after state (ScriptLine.Publish k)) ls h.2
-no-users state (ScriptLine.See w ∷ ls) h = no-users (after state (ScriptLine.See w)) ls h.2
-no-users state (ScriptLine.Open w a peer local ∷ ls) h = no-users (after state (ScriptLine.Open w a peer local)) ls h.2
-no-users state (ScriptLine.Client a bytes ∷ ls) h = no-users (after state (ScriptLine.Client a bytes)) ls h.2
-no-users state (ScriptLine.Target a bytes ∷ ls) h = absurd h.0
-no-users state (ScriptLine.ClientEnd a ∷ ls) h = no-users (after state (ScriptLine.ClientEnd a)) ls h.2
-no-users state (ScriptLine.TargetEnd a ∷ ls) h = no-users (after state (ScriptLine.TargetEnd a)) ls h.2
-no-users state (ScriptLine.Lookup a o ∷ ls) h = absurd h.0
-no-users state (ScriptLine.Dial a o ∷ ls) h = no-users (after state (ScriptLine.Dial a o)) ls h.2
-no-users state (ScriptLine.Door a o ∷ ls) h = absurd h.0
-no-users state (ScriptLine.Peer a p ∷ ls) h = absurd h.0
-no-users state (ScriptLine.Port a o ∷ ls) h = absurd h.0
-no-users state (ScriptLine.Datagram a p bytes ∷ ls) h = absurd h.0
-no-users state (ScriptLine.Room a x n ∷ ls) h = absurd h.0
-no-users state (ScriptLine.Fault a x k ∷ ls) h = absurd h.0
-no-users state (ScriptLine.Now n ∷ ls) h = absurd h.0
-no-users state (ScriptLine.Turn w a ∷ ls) h = no-users (after state (ScriptLine.Turn w a)) ls h.2
-no-users state (ScriptLine.Stop ∷ ls) h = absurd h.0
-
--- nor a number of workers
+-- no line that is served gives a number of workers
 one-worker : (state : State) (ls : List ScriptLine) → IsServedFrom state ls → workers_of ls ≡ 1
 one-worker state [] h = refl
 one-worker state (ScriptLine.Workers n ∷ ls) h = absurd h.0
@@ -64,14 +40,14 @@ one-worker state (ScriptLine.Stop ∷ ls) h = refl
 
 -- a desk of no lines, for as many associations as the script opens
 pub is-fresh : (desk : Book) (script : List ScriptLine) → StandsFor desk [] [] → desk.cap ≡ opens_of script → IsServed script
-    → IsBehind script [] start (record { desk = desk; gens = none_published; slots = []; out = [] })
+    → IsBehind (users_of script) script [] start (record { desk = desk; gens = none_published; slots = []; out = [] })
 is-fresh desk script stands cap served = record {
   s = first_surroundings;
   w = begins script;
   played = plays-none script;
   mirrors = record {
     now = refl;
-    users = no-users start script served;
+    users' = refl;
     pubs = refl;
     below = omega arith;
     seen' = ap (λ n. (begun (users_of script) (opens_of script) n).seen) (one-worker start script served);
@@ -82,6 +58,7 @@ is-fresh desk script stands cap served = record {
     marks = refl;
   };
   matches = record {
+    users' = λ some. absurd (omega (arith, some));
     published' = λ h. cc;
     seen' = λ h. cc;
     sides = tt;

@@ -4,7 +4,7 @@ use Rattle.std.proofs.lemmas.Bool.{and_parts, not-true}
 use Rattle.std.proofs.lemmas.List.{length-set}
 use Rattle.std.specs.Prelude.{slice_get}
 use mathlib.Core.List.{IsPrefix}
-use Rattle.conf_model.specs.declared.config.Config.{Config}
+use Rattle.conf_model.specs.declared.user.User.{User}
 use Rattle.net_ends.specs.InMemory.{LinkInMemory, NetInMemory, told_of_link}
 use Rattle.net_ends.specs.Nets.{DialOutcome}
 use Rattle.net_ends.specs.Told.{Told, Arrival}
@@ -14,20 +14,22 @@ use Rattle.socks_machine.specs.declared.script.ScriptLine.{ScriptLine}
 use Rattle.socks_machine.specs.declared.world.Outer.{Outer}
 use Rattle.socks_machine.specs.declared.world.World.{World}
 use Rattle.socks_machine.specs.Script.{Outside, Surroundings, change, change_at, is_silent, outside_after}
-use Rattle.socks_machine.specs.Served.{is_served_input}
+use Rattle.socks_machine.specs.Basis.{Basis}
+use Rattle.socks_machine.specs.Inputs.{is_served_input}
+use Rattle.socks_machine.specs.Step.{basis_of}
 use Rattle.assoc_core.specs.declared.assoc.Assoc.{Assoc}
 use Rattle.assoc_core.specs.Stands.{Holds, HoldsTarget, EndsBehind, GivesFirst}
 use Rattle.assoc_core.specs.Turns.{outer_of}
 use Rattle.replay_script.specs.declared.state.Side.{Side}
 use Rattle.replay_script.specs.declared.state.State.{State}
-use Rattle.replay_script.specs.Conditions.{after, change_side, may_send, may_end, on_side, side_of, with_side}
+use Rattle.replay_script.specs.Conditions.{after, change_side, may_send, on_side, side_of, with_side}
 use Rattle.replay_run.specs.declared.slot.Slot.{Slot}
 use Rattle.replay_run.specs.declared.state.Replay.{Replay}
 use Rattle.replay_run.specs.Behind.{IsBehind, IsDue}
 use Rattle.replay_run.specs.Changes.{MayArrive, change_net, change_target, with_arrival, with_bytes, with_client_end, with_end, with_outcome, with_plan, with_room, with_target_end}
-use Rattle.replay_run.specs.Mirrors.{IsGoing, IsSlot, Matches, Mirrors, TargetIs, TargetMirrors, record_of}
+use Rattle.replay_run.specs.Mirrors.{HasUsers, IsGoing, IsSlot, Matches, Mirrors, TargetIs, TargetMirrors, record_of}
 use Rattle.replay_run.specs.Played.{Played}
-use Rattle.replay_run.proofs.Places.{IsPlace, IsSide, placed, place-within, sides-set}
+use Rattle.replay_run.proofs.Places.{IsPlace, IsSide, placed, place-within, side-open, sides-set}
 use Rattle.replay_run.proofs.Playing.{plays-silent}
 use Rattle.replay_run.proofs.Slots.{get-map-at, map-set-at, set-same, set-set, slots-set}
 
@@ -82,9 +84,9 @@ target-room : (n : ℕ) (r : Record) (t : Option LinkInMemory) → HoldsTarget t
 target-room n r None h = h
 target-room n r (Some link) h = (h.0, holds-room n link r.t r.sent_t r.end_t r.shut_t h.1, h.2, h.3)
 
-going-arrives : (pubs : List Config) (number : ℕ) (bytes : List ℕ) (a : Assoc LinkInMemory) (net : NetInMemory) (o : Outside) → IsGoing pubs number a net o → o.end_c ≡ false
-    → is_served_input (o.c ++ bytes) ≡ true → IsSlot pubs number (with_arrival bytes (Slot.Going a net)) (record o { c = o.c ++ bytes })
-going-arrives pubs number bytes a net o h unended served = record {
+going-arrives : (basis : Basis) (number : ℕ) (bytes : List ℕ) (a : Assoc LinkInMemory) (net : NetInMemory) (o : Outside) → IsGoing basis number a net o → o.end_c ≡ false
+    → is_served_input basis.users (o.c ++ bytes) ≡ true → IsSlot basis number (with_arrival bytes (Slot.Going a net)) (record o { c = o.c ++ bytes })
+going-arrives basis number bytes a net o h unended served = record {
   number' = h.number';
   since = h.since;
   stands = record {
@@ -109,9 +111,9 @@ mirrors-closed : (t : Option LinkInMemory) (net : NetInMemory) (o : Outside) →
 mirrors-closed None net o h = (record { arrived = h.0.arrived; ends = h.0.ends; unfailing = h.0.unfailing; cap = h.0.cap }, h.1)
 mirrors-closed (Some link) net o h = record { arrived = h.arrived; ends = h.ends; unfailing = h.unfailing; cap = h.cap }
 
-going-ends : (pubs : List Config) (number : ℕ) (a : Assoc LinkInMemory) (net : NetInMemory) (o : Outside) → IsGoing pubs number a net o → o.end_c ≡ false
-    → IsSlot pubs number (with_client_end (Slot.Going a net)) (record o { end_c = true })
-going-ends pubs number a net o h unended = record {
+going-ends : (basis : Basis) (number : ℕ) (a : Assoc LinkInMemory) (net : NetInMemory) (o : Outside) → IsGoing basis number a net o → o.end_c ≡ false
+    → IsSlot basis number (with_client_end (Slot.Going a net)) (record o { end_c = true })
+going-ends basis number a net o h unended = record {
   number' = h.number';
   since = h.since;
   stands = record {
@@ -150,9 +152,9 @@ target-end r (Some link) net o m unended h = (
   gives-end link h.3,
 )
 
-going-target-ends : (pubs : List Config) (number : ℕ) (a : Assoc LinkInMemory) (net : NetInMemory) (o : Outside) → IsGoing pubs number a net o → o.end_t ≡ false
-    → IsSlot pubs number (with_target_end (Slot.Going a net)) (record o { end_t = true })
-going-target-ends pubs number a net o h unended = record {
+going-target-ends : (basis : Basis) (number : ℕ) (a : Assoc LinkInMemory) (net : NetInMemory) (o : Outside) → IsGoing basis number a net o → o.end_t ≡ false
+    → IsSlot basis number (with_target_end (Slot.Going a net)) (record o { end_t = true })
+going-target-ends basis number a net o h unended = record {
   number' = h.number';
   since = h.since;
   stands = record {
@@ -181,9 +183,9 @@ mirrors-plan : (outcome : DialOutcome) (outer : Outer) (t : Option LinkInMemory)
 mirrors-plan outcome outer None net o same h = (is-plan net.link o outer h.0, same)
 mirrors-plan outcome outer (Some link) net o same h = is-plan link o outer h
 
-going-planned : (pubs : List Config) (number : ℕ) (outcome : DialOutcome) (outer : Outer) (a : Assoc LinkInMemory) (net : NetInMemory) (o : Outside) → outer_of outcome ≡ outer
-    → IsGoing pubs number a net o → IsSlot pubs number (with_plan outcome (Slot.Going a net)) (record o { dial = outer })
-going-planned pubs number outcome outer a net o same h = record {
+going-planned : (basis : Basis) (number : ℕ) (outcome : DialOutcome) (outer : Outer) (a : Assoc LinkInMemory) (net : NetInMemory) (o : Outside) → outer_of outcome ≡ outer
+    → IsGoing basis number a net o → IsSlot basis number (with_plan outcome (Slot.Going a net)) (record o { dial = outer })
+going-planned basis number outcome outer a net o same h = record {
   number' = h.number';
   since = h.since;
   stands = h.stands;
@@ -199,11 +201,11 @@ going-planned pubs number outcome outer a net o same h = record {
 -- ---- the place of a line's association
 
 pub place-of : (l : ScriptLine) (r : Replay) (number : ℕ) (test : Side → Bool) (d : IsDue l r)
-    → on_side (side_of d.state number) test ≡ true → IsPlace r.gens.configs number test d.state.sides d.behind.s.outsides r.slots
-place-of l r number test d h = placed r.gens.configs d.state number test d.behind.s.outsides r.slots d.behind.matches.sides d.behind.mirrors.slots' h
+    → on_side (side_of d.state number) test ≡ true → IsPlace (basis_of d.behind.w) number test d.state.sides d.behind.s.outsides r.slots
+place-of l r number test d h = placed (basis_of d.behind.w) d.state number test d.behind.s.outsides r.slots d.behind.matches.sides d.behind.mirrors.slots' h
 
-pub place-there : (pubs : List Config) (number : ℕ) (test : Side → Bool) (sides : List Side) (os : List Outside) (slots : List Slot) → IsPlace pubs number test sides os slots → number - 1 < length slots
-place-there pubs number test sides os slots p = let h = place-within slots p.k p.slot p.slot-at in let e = p.number' in omega arith
+pub place-there : (basis : Basis) (number : ℕ) (test : Side → Bool) (sides : List Side) (os : List Outside) (slots : List Slot) → IsPlace basis number test sides os slots → number - 1 < length slots
+place-there basis number test sides os slots p = let h = place-within slots p.k p.slot p.slot-at in let e = p.number' in omega arith
 
 pub still-there : (slots new : List Slot) (at : ℕ) (slot : Slot) → at < length slots → new ≡ slice_set slots at slot → at < length new
 still-there slots new at slot h e = let k = length-set slots at slot in let m = ap length e in omega arith
@@ -221,12 +223,12 @@ put-back old away new at slot gone changed f found out is back x there =
 -- ---- a line that changes one association
 
 -- what it changes outside, in the reader's state and in the replay
-pub record Changes (l : ScriptLine) (number : ℕ) (test : Side → Bool) (outside : Outside → Outside) (side : Side → Side) (slot : Slot → Slot) : Type 0 where
+pub record Changes (basis : Basis) (l : ScriptLine) (number : ℕ) (test : Side → Bool) (outside : Outside → Outside) (side : Side → Side) (slot : Slot → Slot) : Type 0 where
   pub silent : (w : World) → is_silent w l ≡ true
   pub outside' : (s : Surroundings) → outside_after s l ≡ change s number outside
   pub state' : (state : State) → after state l ≡ change_side state number side
   pub is : (x : Side) (o : Outside) → IsSide x o → IsSide (side x) (outside o)
-  pub stands : (pubs : List Config) (n : ℕ) (x : Side) (o : Outside) (y : Slot) → IsSide x o → test x ≡ true → IsSlot pubs n y o → IsSlot pubs n (slot y) (outside o)
+  pub stands : (n : ℕ) (x : Side) (o : Outside) (y : Slot) → IsSide x o → test x ≡ true → IsSlot basis n y o → IsSlot basis n (slot y) (outside o)
   pub record' : (y : Slot) → record_of (slot y) ≡ record_of y
 
 outside-changed : (s : Surroundings) (number k : ℕ) (f : Outside → Outside) (o : Outside) → number ≡ suc k → slice_get s.outsides k ≡ Some o
@@ -242,29 +244,31 @@ records-same : (slots : List Slot) (k : ℕ) (x y : Slot) → slice_get slots k 
 records-same slots k x y at same = map-set-at record_of slots k y
     ∙ (ap (λ (r : Record). slice_set (map record_of slots) k r) same ∙ set-same (map record_of slots) k (record_of x) (get-map-at record_of slots k x at))
 
-pub changed : (script lines : List ScriptLine) (state : State) (old : Replay) (slots : List Slot) (l : ScriptLine) (number : ℕ) (test : Side → Bool)
-    (outside : Outside → Outside) (side : Side → Side) (slot : Slot → Slot) → Changes l number test outside side slot → on_side (side_of state number) test ≡ true
+pub changed : (users : List User) (script lines : List ScriptLine) (state : State) (old : Replay) (slots : List Slot) (l : ScriptLine) (number : ℕ) (test : Side → Bool)
+    (outside : Outside → Outside) (side : Side → Side) (slot : Slot → Slot) → (b : IsBehind users script lines state old)
+    → Changes (basis_of b.w) l number test outside side slot → on_side (side_of state number) test ≡ true
     → ((x : Slot) → slice_get old.slots (number - 1) ≡ Some x → slots ≡ slice_set old.slots (number - 1) (slot x))
-    → IsBehind script lines state old → IsBehind script (lines ++ l ∷ []) (after state l) (record old { slots = slots })
-changed script lines state old slots l number test outside side slot h allowed written b = record {
+    → IsBehind users script (lines ++ l ∷ []) (after state l) (record old { slots = slots })
+changed users script lines state old slots l number test outside side slot b h allowed written = record {
   s = s;
   w = b.w;
   played = subst (λ (z : Surroundings). Played script (lines ++ l ∷ []) z b.w old.out) (h.outside' b.s ∙ outside-changed b.s number p.k outside p.o p.number' p.outside-at)
       (plays-silent script lines b.s b.w old.out l b.played (h.silent b.w));
-  mirrors = subst (λ (z : List Slot). Mirrors (StandsFor old.desk) old.desk.cap s b.w old.gens z) (sym there) (record {
+  mirrors = subst (λ (z : List Slot). Mirrors users (StandsFor old.desk) old.desk.cap s b.w old.gens z) (sym there) (record {
     now = b.mirrors.now;
-    users = b.mirrors.users;
+    users' = b.mirrors.users';
     pubs = b.mirrors.pubs;
     seen' = b.mirrors.seen';
     below = b.mirrors.below;
     records = b.mirrors.records ∙ sym (records-same old.slots p.k p.slot (slot p.slot) p.slot-at (h.record' p.slot));
-    slots' = slots-set old.gens.configs 1 old.slots b.s.outsides p.k (slot p.slot) (outside p.o) b.mirrors.slots'
-        (subst (λ (n : ℕ). IsSlot old.gens.configs n (slot p.slot) (outside p.o)) (omega arith) (h.stands old.gens.configs (suc p.k) p.side p.o p.slot p.is p.passes p.stands));
+    slots' = slots-set (basis_of b.w) 1 old.slots b.s.outsides p.k (slot p.slot) (outside p.o) b.mirrors.slots'
+        (subst (λ (n : ℕ). IsSlot (basis_of b.w) n (slot p.slot) (outside p.o)) (omega arith) (h.stands (suc p.k) p.side p.o p.slot p.is p.passes p.stands));
     desk = b.mirrors.desk;
     cap' = b.mirrors.cap';
     marks = b.mirrors.marks;
   });
-  matches = subst (λ (z : State). Matches z s old.gens) (sym (h.state' state ∙ state-changed state number p.k side p.side p.number' p.side-at)) (record {
+  matches = subst (λ (z : State). Matches users z s old.gens) (sym (h.state' state ∙ state-changed state number p.k side p.side p.number' p.side-at)) (record {
+    users' = λ some. b.matches.users' (let e = length-set state.sides p.k (side p.side) in omega (arith, e, some));
     published' = b.matches.published';
     seen' = b.matches.seen';
     sides = sides-set state.sides b.s.outsides p.k (side p.side) (outside p.o) b.matches.sides (h.is p.side p.o p.is);
@@ -272,8 +276,8 @@ changed script lines state old slots l number test outside side slot h allowed w
   });
 }
   where
-    p : IsPlace old.gens.configs number test state.sides b.s.outsides old.slots
-    p = placed old.gens.configs state number test b.s.outsides old.slots b.matches.sides b.mirrors.slots' allowed
+    p : IsPlace (basis_of b.w) number test state.sides b.s.outsides old.slots
+    p = placed (basis_of b.w) state number test b.s.outsides old.slots b.matches.sides b.mirrors.slots' allowed
 
     s : Surroundings
     s = record b.s { outsides = slice_set b.s.outsides p.k (outside p.o) }
@@ -287,14 +291,17 @@ changed script lines state old slots l number test outside side slot h allowed w
 
 -- ---- the four lines
 
-pub send-allowed : (bytes : List ℕ) (x : Side) → may_send bytes x ≡ true → (x.end_c ≡ false) × (is_served_input (x.c ++ bytes) ≡ true)
-send-allowed bytes x h =
-    let e = and_parts (not x.end_c && nat_le (length x.c + length bytes) 65535) (is_served_input (x.c ++ bytes)) h in
-    (not-true x.end_c (and_parts (not x.end_c) (nat_le (length x.c + length bytes) 65535) e.0).0, e.1)
+pub send-allowed : (users : List User) (bytes : List ℕ) (x : Side) → may_send users bytes x ≡ true → (x.end_c ≡ false) × (is_served_input users (x.c ++ bytes) ≡ true)
+send-allowed users bytes x h =
+    let e = and_parts (not x.end_c) (is_served_input users (x.c ++ bytes)) h in (not-true x.end_c e.0, e.1)
 
-pub client-changes : (number : ℕ) (bytes : List ℕ)
-    → Changes (ScriptLine.Client number bytes) number (may_send bytes) (λ o. record o { c = o.c ++ bytes }) (λ x. record x { c = x.c ++ bytes }) (with_arrival bytes)
-client-changes number bytes = record {
+-- where an association is open, the reader's users are those of the world
+pub same-users : (users : List User) (state : State) (number : ℕ) (test : Side → Bool) (w : World) → HasUsers users state → w.users ≡ users → on_side (side_of state number) test ≡ true → state.users ≡ w.users
+same-users users state number test w has is h = has (side-open state number test h) ∙ sym is
+
+pub client-changes : (basis : Basis) (users : List User) (number : ℕ) (bytes : List ℕ) → users ≡ basis.users
+    → Changes basis (ScriptLine.Client number bytes) number (may_send users bytes) (λ o. record o { c = o.c ++ bytes }) (λ x. record x { c = x.c ++ bytes }) (with_arrival bytes)
+client-changes basis users number bytes same = record {
   silent = λ w. refl;
   outside' = λ s. refl;
   state' = λ state. refl;
@@ -303,19 +310,21 @@ client-changes number bytes = record {
   record' = by-record;
 }
   where
-    by-slot : (pubs : List Config) (n : ℕ) (x : Side) (o : Outside) (y : Slot) → IsSide x o → may_send bytes x ≡ true → IsSlot pubs n y o → IsSlot pubs n (with_arrival bytes y) (record o { c = o.c ++ bytes })
-    by-slot pubs n x o (Slot.Going a net) i t h = let e = send-allowed bytes x t in
-        going-arrives pubs n bytes a net o h (sym i.1 ∙ e.0) (subst (λ (z : List ℕ). is_served_input (z ++ bytes) ≡ true) i.0 e.1)
-    by-slot pubs n x o (Slot.Over e) i t h = h
-    by-slot pubs n x o Slot.Away i t h = absurd h
+    by-slot : (n : ℕ) (x : Side) (o : Outside) (y : Slot) → IsSide x o → may_send users bytes x ≡ true → IsSlot basis n y o → IsSlot basis n (with_arrival bytes y) (record o { c = o.c ++ bytes })
+    by-slot n x o (Slot.Going a net) i t h = let e = send-allowed users bytes x t in
+        going-arrives basis n bytes a net o h (sym i.1 ∙ e.0)
+        (subst (λ (us : List User). is_served_input us (o.c ++ bytes) ≡ true) same (subst (λ (z : List ℕ). is_served_input users (z ++ bytes) ≡ true) i.0 e.1))
+    by-slot n x o (Slot.Over e) i t h = h
+    by-slot n x o Slot.Away i t h = absurd h
 
     by-record : (y : Slot) → record_of (with_arrival bytes y) ≡ record_of y
     by-record (Slot.Going a net) = refl
     by-record (Slot.Over e) = refl
     by-record Slot.Away = refl
 
-pub client-end-changes : (number : ℕ) → Changes (ScriptLine.ClientEnd number) number may_end (λ o. record o { end_c = true }) (λ x. record x { end_c = true }) with_client_end
-client-end-changes number = record {
+pub client-end-changes : (basis : Basis) (number : ℕ)
+    → Changes basis (ScriptLine.ClientEnd number) number (λ x. not x.end_c) (λ o. record o { end_c = true }) (λ x. record x { end_c = true }) with_client_end
+client-end-changes basis number = record {
   silent = λ w. refl;
   outside' = λ s. refl;
   state' = λ state. refl;
@@ -324,19 +333,19 @@ client-end-changes number = record {
   record' = by-record;
 }
   where
-    by-slot : (pubs : List Config) (n : ℕ) (x : Side) (o : Outside) (y : Slot) → IsSide x o → may_end x ≡ true → IsSlot pubs n y o → IsSlot pubs n (with_client_end y) (record o { end_c = true })
-    by-slot pubs n x o (Slot.Going a net) i t h = going-ends pubs n a net o h (sym i.1 ∙ not-true x.end_c (and_parts (not x.end_c) _ t).0)
-    by-slot pubs n x o (Slot.Over e) i t h = h
-    by-slot pubs n x o Slot.Away i t h = absurd h
+    by-slot : (n : ℕ) (x : Side) (o : Outside) (y : Slot) → IsSide x o → not x.end_c ≡ true → IsSlot basis n y o → IsSlot basis n (with_client_end y) (record o { end_c = true })
+    by-slot n x o (Slot.Going a net) i t h = going-ends basis n a net o h (sym i.1 ∙ not-true x.end_c t)
+    by-slot n x o (Slot.Over e) i t h = h
+    by-slot n x o Slot.Away i t h = absurd h
 
     by-record : (y : Slot) → record_of (with_client_end y) ≡ record_of y
     by-record (Slot.Going a net) = refl
     by-record (Slot.Over e) = refl
     by-record Slot.Away = refl
 
-pub target-end-changes : (number : ℕ)
-    → Changes (ScriptLine.TargetEnd number) number (λ x. not x.end_t) (λ o. record o { end_t = true }) (λ x. record x { end_t = true }) with_target_end
-target-end-changes number = record {
+pub target-end-changes : (basis : Basis) (number : ℕ)
+    → Changes basis (ScriptLine.TargetEnd number) number (λ x. not x.end_t) (λ o. record o { end_t = true }) (λ x. record x { end_t = true }) with_target_end
+target-end-changes basis number = record {
   silent = λ w. refl;
   outside' = λ s. refl;
   state' = λ state. refl;
@@ -345,19 +354,19 @@ target-end-changes number = record {
   record' = by-record;
 }
   where
-    by-slot : (pubs : List Config) (n : ℕ) (x : Side) (o : Outside) (y : Slot) → IsSide x o → not x.end_t ≡ true → IsSlot pubs n y o → IsSlot pubs n (with_target_end y) (record o { end_t = true })
-    by-slot pubs n x o (Slot.Going a net) i t h = going-target-ends pubs n a net o h (sym i.2 ∙ not-true x.end_t t)
-    by-slot pubs n x o (Slot.Over e) i t h = h
-    by-slot pubs n x o Slot.Away i t h = absurd h
+    by-slot : (n : ℕ) (x : Side) (o : Outside) (y : Slot) → IsSide x o → not x.end_t ≡ true → IsSlot basis n y o → IsSlot basis n (with_target_end y) (record o { end_t = true })
+    by-slot n x o (Slot.Going a net) i t h = going-target-ends basis n a net o h (sym i.2 ∙ not-true x.end_t t)
+    by-slot n x o (Slot.Over e) i t h = h
+    by-slot n x o Slot.Away i t h = absurd h
 
     by-record : (y : Slot) → record_of (with_target_end y) ≡ record_of y
     by-record (Slot.Going a net) = refl
     by-record (Slot.Over e) = refl
     by-record Slot.Away = refl
 
-pub dial-changes : (number : ℕ) (outer : Outer) (outcome : DialOutcome) → outer_of outcome ≡ outer
-    → Changes (ScriptLine.Dial number outer) number (λ x. not x.dialled) (λ o. record o { dial = outer }) (λ x. record x { dialled = true }) (with_plan outcome)
-dial-changes number outer outcome same = record {
+pub dial-changes : (basis : Basis) (number : ℕ) (outer : Outer) (outcome : DialOutcome) → outer_of outcome ≡ outer
+    → Changes basis (ScriptLine.Dial number outer) number (λ x. not x.dialled) (λ o. record o { dial = outer }) (λ x. record x { dialled = true }) (with_plan outcome)
+dial-changes basis number outer outcome same = record {
   silent = λ w. refl;
   outside' = λ s. refl;
   state' = λ state. refl;
@@ -366,10 +375,10 @@ dial-changes number outer outcome same = record {
   record' = by-record;
 }
   where
-    by-slot : (pubs : List Config) (n : ℕ) (x : Side) (o : Outside) (y : Slot) → IsSide x o → not x.dialled ≡ true → IsSlot pubs n y o → IsSlot pubs n (with_plan outcome y) (record o { dial = outer })
-    by-slot pubs n x o (Slot.Going a net) i t h = going-planned pubs n outcome outer a net o same h
-    by-slot pubs n x o (Slot.Over e) i t h = h
-    by-slot pubs n x o Slot.Away i t h = absurd h
+    by-slot : (n : ℕ) (x : Side) (o : Outside) (y : Slot) → IsSide x o → not x.dialled ≡ true → IsSlot basis n y o → IsSlot basis n (with_plan outcome y) (record o { dial = outer })
+    by-slot n x o (Slot.Going a net) i t h = going-planned basis n outcome outer a net o same h
+    by-slot n x o (Slot.Over e) i t h = h
+    by-slot n x o Slot.Away i t h = absurd h
 
     by-record : (y : Slot) → record_of (with_plan outcome y) ≡ record_of y
     by-record (Slot.Going a net) = refl
@@ -377,9 +386,9 @@ dial-changes number outer outcome same = record {
     by-record Slot.Away = refl
 
 -- more can arrive from the client at the place of its line
-pub may-arrive : (pubs : List Config) (number : ℕ) (bytes : List ℕ) (sides : List Side) (os : List Outside) (slots : List Slot) → IsPlace pubs number (may_send bytes) sides os slots
+pub may-arrive : (basis : Basis) (users : List User) (number : ℕ) (bytes : List ℕ) (sides : List Side) (os : List Outside) (slots : List Slot) → IsPlace basis number (may_send users bytes) sides os slots
     → (slot : Slot) → slice_get slots (number - 1) ≡ Some slot → MayArrive slot
-may-arrive pubs number bytes sides os slots p slot found = subst MayArrive same (by-slot p.slot p.stands)
+may-arrive basis users number bytes sides os slots p slot found = subst MayArrive same (by-slot p.slot p.stands)
   where
     at : number - 1 ≡ p.k
     at = let e = p.number' in omega arith
@@ -390,7 +399,7 @@ may-arrive pubs number bytes sides os slots p slot found = subst MayArrive same 
     same : p.slot ≡ slot
     same = cc (p.slot-at, found')
 
-    by-slot : (y : Slot) → IsSlot pubs (suc p.k) y p.o → MayArrive y
-    by-slot (Slot.Going a net) h = h.ends ∙ (sym p.is.1 ∙ (send-allowed bytes p.side p.passes).0)
+    by-slot : (y : Slot) → IsSlot basis (suc p.k) y p.o → MayArrive y
+    by-slot (Slot.Going a net) h = h.ends ∙ (sym p.is.1 ∙ (send-allowed users bytes p.side p.passes).0)
     by-slot (Slot.Over e) h = tt
     by-slot Slot.Away h = absurd h

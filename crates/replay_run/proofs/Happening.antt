@@ -7,13 +7,15 @@ use Rattle.std.specs.Prelude.{codes, slice_get}
 use Rattle.addr_pattern.specs.declared.endpoint.Endpoint.{Endpoint}
 use Rattle.addr_pattern.specs.AddressText.{number_text}
 use Rattle.conf_model.specs.declared.config.Config.{Config}
+use Rattle.conf_model.specs.declared.user.User.{User}
 use Rattle.net_ends.specs.InMemory.{told_of_link, fresh_link}
 use Rattle.socks_machine.specs.declared.script.ScriptLine.{ScriptLine}
 use Rattle.socks_machine.specs.declared.world.Event.{Event}
 use Rattle.socks_machine.specs.declared.world.World.{World}
 use Rattle.socks_machine.specs.Script.{Outside, Surroundings, nothing_yet}
+use Rattle.socks_machine.specs.Basis.{Basis}
 use Rattle.socks_machine.specs.Socks.{socks}
-use Rattle.socks_machine.specs.Step.{fresh, seen_by, step, when}
+use Rattle.socks_machine.specs.Step.{basis_of, fresh, seen_by, step, when}
 use Rattle.socks_machine.specs.Taking.{◌>>=◌}
 use Rattle.socks_machine.specs.Transcript.{event_line, line}
 use Rattle.generation.specs.Published.{Generations, with_config}
@@ -24,14 +26,31 @@ use Rattle.replay_script.specs.declared.state.State.{State}
 use Rattle.replay_script.specs.Conditions.{IsServedForm, after, allows, fresh_side}
 use Rattle.replay_run.specs.declared.slot.Slot.{Slot}
 use Rattle.replay_run.specs.declared.state.Replay.{Replay}
-use Rattle.replay_run.specs.Behind.{IsBehind}
+use Rattle.replay_run.specs.Behind.{GoesBehind, IsBehind}
 use Rattle.replay_run.specs.Changes.{opened_slot, room_for_replies}
-use Rattle.replay_run.specs.Mirrors.{AreSides, AreSlots, IsConfigured, IsSlot, record_of, seen_by_workers}
+use Rattle.replay_run.specs.Mirrors.{AreSides, AreSlots, HasUsers, IsConfigured, IsSlot, record_of, seen_by_workers}
 use Rattle.replay_run.specs.Played.{Played}
 use Rattle.replay_run.specs.Shown.{open_shown, publish_shown, see_shown}
 use Rattle.replay_run.proofs.Places.{sides-more}
-use Rattle.replay_run.proofs.Playing.{plays-event}
+use Rattle.replay_run.proofs.Playing.{plays-event, plays-silent}
 use Rattle.replay_run.proofs.Slots.{slots-more}
+
+-- ---- the users come
+
+pub gives : (users us : List User) (r : Replay) → GoesBehind users (ScriptLine.UsersAre us) r r
+gives users us r script lines state form allowed has b = record {
+  s = b.s;
+  w = b.w;
+  played = plays-silent script lines b.s b.w r.out (ScriptLine.UsersAre us) b.played refl;
+  mirrors = b.mirrors;
+  matches = record {
+    users' = has;
+    published' = b.matches.published';
+    seen' = b.matches.seen';
+    sides = b.matches.sides;
+    plain = b.matches.plain;
+  };
+}
 
 -- ---- a configuration is published
 
@@ -40,17 +59,18 @@ unfolding publish_shown
 publish-line w k n h = ap (λ n. line (codes "publish" ∷ number_text n ∷ [])) h
 
 -- what stood for its record stands for it still
-slots-later : (pubs : List Config) (k : Config) (number : ℕ) (slots : List Slot) (os : List Outside) → AreSlots pubs number slots os → AreSlots (pubs ++ k ∷ []) number slots os
-slots-later pubs k number [] [] h = tt
-slots-later pubs k number [] (o ∷ os) h = absurd h
-slots-later pubs k number (slot ∷ slots) [] h = absurd h
-slots-later pubs k number (slot ∷ slots) (o ∷ os) h = (slot-later number slot o h.0, slots-later pubs k (suc number) slots os h.1)
+slots-later : (users : List User) (pubs : List Config) (k : Config) (number : ℕ) (slots : List Slot) (os : List Outside) → AreSlots (socks users pubs) number slots os
+    → AreSlots (socks users (pubs ++ k ∷ [])) number slots os
+slots-later users pubs k number [] [] h = tt
+slots-later users pubs k number [] (o ∷ os) h = absurd h
+slots-later users pubs k number (slot ∷ slots) [] h = absurd h
+slots-later users pubs k number (slot ∷ slots) (o ∷ os) h = (slot-later number slot o h.0, slots-later users pubs k (suc number) slots os h.1)
   where
-    slot-later : (n : ℕ) (slot : Slot) (o : Outside) → IsSlot pubs n slot o → IsSlot (pubs ++ k ∷ []) n slot o
+    slot-later : (n : ℕ) (slot : Slot) (o : Outside) → IsSlot (socks users pubs) n slot o → IsSlot (socks users (pubs ++ k ∷ [])) n slot o
     slot-later n (Slot.Going a net) o h = record {
       number' = h.number';
       since = h.since;
-      stands = stands-published told_of_link [] pubs k a h.stands;
+      stands = stands-published told_of_link users pubs k a h.stands;
       arrived = h.arrived;
       ends = h.ends;
       unfailing = h.unfailing;
@@ -62,11 +82,11 @@ slots-later pubs k number (slot ∷ slots) (o ∷ os) h = (slot-later number slo
     slot-later n (Slot.Over e) o h = h
     slot-later n Slot.Away o h = h
 
-pub publishes : (script lines : List ScriptLine) (state : State) (k : Config) (old : Replay) (gens : Generations) (out : List ℕ)
-    → gens ≡ with_config old.gens k → out ≡ old.out ++ publish_shown (length gens.configs) → IsServedForm (ScriptLine.Publish k) → IsBehind script lines state old
-    → IsBehind script (lines ++ ScriptLine.Publish k ∷ []) (after state (ScriptLine.Publish k)) (record old { gens = gens; out = out })
-publishes script lines state k old gens out is written form b =
-    subst (λ (z : Generations). IsBehind script (lines ++ ScriptLine.Publish k ∷ []) (after state (ScriptLine.Publish k)) (record old { gens = z; out = out })) (sym is)
+pub publishes : (users : List User) (script lines : List ScriptLine) (state : State) (k : Config) (old : Replay) (gens : Generations) (out : List ℕ)
+    → gens ≡ with_config old.gens k → out ≡ old.out ++ publish_shown (length gens.configs) → IsServedForm (ScriptLine.Publish k) → IsBehind users script lines state old
+    → IsBehind users script (lines ++ ScriptLine.Publish k ∷ []) (after state (ScriptLine.Publish k)) (record old { gens = gens; out = out })
+publishes users script lines state k old gens out is written form b =
+    subst (λ (z : Generations). IsBehind users script (lines ++ ScriptLine.Publish k ∷ []) (after state (ScriptLine.Publish k)) (record old { gens = z; out = out })) (sym is)
     (published (subst (λ (z : Generations). out ≡ old.out ++ publish_shown (length z.configs)) is written))
   where
     w : World
@@ -76,7 +96,7 @@ publishes script lines state k old gens out is written form b =
     pubs = ap (λ z. z ++ k ∷ []) b.mirrors.pubs
 
     published : out ≡ old.out ++ publish_shown (length (old.gens.configs ++ k ∷ []))
-        → IsBehind script (lines ++ ScriptLine.Publish k ∷ []) (after state (ScriptLine.Publish k)) (record old { gens = with_config old.gens k; out = out })
+        → IsBehind users script (lines ++ ScriptLine.Publish k ∷ []) (after state (ScriptLine.Publish k)) (record old { gens = with_config old.gens k; out = out })
     published written = record {
       s = b.s;
       w = w;
@@ -85,17 +105,18 @@ publishes script lines state k old gens out is written form b =
           (plays-event script lines b.s b.w w old.out (ScriptLine.Publish k) (Event.Publish k) [] b.played refl refl refl refl);
       mirrors = record {
         now = b.mirrors.now;
-        users = b.mirrors.users;
+        users' = b.mirrors.users';
         pubs = pubs;
         seen' = b.mirrors.seen';
         below = let h = b.mirrors.below in let e = length-append old.gens.configs (k ∷ []) in omega (arith, h, e);
         records = b.mirrors.records;
-        slots' = slots-later old.gens.configs k 1 old.slots b.s.outsides b.mirrors.slots';
+        slots' = slots-later (b.w).users (b.w).pubs k 1 old.slots b.s.outsides b.mirrors.slots';
         desk = b.mirrors.desk;
         cap' = b.mirrors.cap';
         marks = b.mirrors.marks;
       };
       matches = record {
+        users' = b.matches.users';
         published' = λ h. let e = length-append old.gens.configs (k ∷ []) in omega (arith, e);
         seen' = b.matches.seen';
         sides = b.matches.sides;
@@ -127,17 +148,17 @@ see-step w gens pubs saw below some =
     below' : gens.seen ≤ length w.pubs
     below' = subst (λ n. gens.seen ≤ n) (sym (ap length pubs)) below
 
-pub sees : (script lines : List ScriptLine) (state : State) (old : Replay) (gens : Generations) (out : List ℕ)
+pub sees : (users : List User) (script lines : List ScriptLine) (state : State) (old : Replay) (gens : Generations) (out : List ℕ)
     → gens ≡ record old.gens { seen = length old.gens.configs } → out ≡ old.out ++ see_shown (length old.gens.configs) → 0 < length old.gens.configs
-    → IsBehind script lines state old
-    → IsBehind script (lines ++ ScriptLine.See 1 ∷ []) (after state (ScriptLine.See 1)) (record old { gens = gens; out = out })
-sees script lines state old gens out is written some b =
-    subst (λ (z : Generations). IsBehind script (lines ++ ScriptLine.See 1 ∷ []) (after state (ScriptLine.See 1)) (record old { gens = z; out = out })) (sym is) seen
+    → IsBehind users script lines state old
+    → IsBehind users script (lines ++ ScriptLine.See 1 ∷ []) (after state (ScriptLine.See 1)) (record old { gens = gens; out = out })
+sees users script lines state old gens out is written some b =
+    subst (λ (z : Generations). IsBehind users script (lines ++ ScriptLine.See 1 ∷ []) (after state (ScriptLine.See 1)) (record old { gens = z; out = out })) (sym is) seen
   where
     w : World
     w = record b.w { seen = seen_by_workers (length old.gens.configs) }
 
-    seen : IsBehind script (lines ++ ScriptLine.See 1 ∷ []) (after state (ScriptLine.See 1)) (record old { gens = record old.gens { seen = length old.gens.configs }; out = out })
+    seen : IsBehind users script (lines ++ ScriptLine.See 1 ∷ []) (after state (ScriptLine.See 1)) (record old { gens = record old.gens { seen = length old.gens.configs }; out = out })
     seen = record {
       s = b.s;
       w = w;
@@ -147,7 +168,7 @@ sees script lines state old gens out is written some b =
           (see-step b.w old.gens b.mirrors.pubs b.mirrors.seen' b.mirrors.below some) refl);
       mirrors = record {
         now = b.mirrors.now;
-        users = b.mirrors.users;
+        users' = b.mirrors.users';
         pubs = b.mirrors.pubs;
         seen' = refl;
         below = omega arith;
@@ -158,6 +179,7 @@ sees script lines state old gens out is written some b =
         marks = b.mirrors.marks;
       };
       matches = record {
+        users' = b.matches.users';
         published' = b.matches.published';
         seen' = λ h. some;
         sides = b.matches.sides;
@@ -177,16 +199,16 @@ sides-length [] (o ∷ os) h = absurd h
 sides-length (x ∷ xs) [] h = absurd h
 sides-length (x ∷ xs) (o ∷ os) h = ap (λ (n : ℕ). suc n) (sides-length xs os h.3)
 
-slots-length : (pubs : List Config) (number : ℕ) (slots : List Slot) (os : List Outside) → AreSlots pubs number slots os → length slots ≡ length os
-slots-length pubs number [] [] h = refl
-slots-length pubs number [] (o ∷ os) h = absurd h
-slots-length pubs number (x ∷ xs) [] h = absurd h
-slots-length pubs number (x ∷ xs) (o ∷ os) h = ap (λ (n : ℕ). suc n) (slots-length pubs (suc number) xs os h.1)
+slots-length : (basis : Basis) (number : ℕ) (slots : List Slot) (os : List Outside) → AreSlots basis number slots os → length slots ≡ length os
+slots-length basis number [] [] h = refl
+slots-length basis number [] (o ∷ os) h = absurd h
+slots-length basis number (x ∷ xs) [] h = absurd h
+slots-length basis number (x ∷ xs) (o ∷ os) h = ap (λ (n : ℕ). suc n) (slots-length basis (suc number) xs os h.1)
 
 -- nothing has happened on it
-opened-stands : (pubs : List Config) (number : ℕ) (peer local : Endpoint)
-    → Stands told_of_link (socks [] pubs) (record { state = fresh number peer local 0; client = fresh_link room_for_replies; target = None })
-opened-stands pubs number peer local = record {
+opened-stands : (basis : Basis) (number : ℕ) (peer local : Endpoint)
+    → Stands told_of_link basis (record { state = fresh number peer local 0; client = fresh_link room_for_replies; target = None })
+opened-stands basis number peer local = record {
   plain = record {
     undone = refl;
     unclosed = refl;
@@ -194,6 +216,7 @@ opened-stands pubs number peer local = record {
     sent_u = refl;
     served = refl;
     chosen' = refl;
+    failed = refl;
     decided = refl;
     sent_c = ([], refl);
     sent_t = ([], refl);
@@ -205,11 +228,11 @@ opened-stands pubs number peer local = record {
   target = (refl, refl, refl, refl);
 }
 
-opened-is : (pubs : List Config) (number : ℕ) (peer local : Endpoint) → IsSlot pubs number (opened_slot number peer local) nothing_yet
-opened-is pubs number peer local = record {
+opened-is : (basis : Basis) (number : ℕ) (peer local : Endpoint) → IsSlot basis number (opened_slot number peer local) nothing_yet
+opened-is basis number peer local = record {
   number' = refl;
   since = refl;
-  stands = opened-stands pubs number peer local;
+  stands = opened-stands basis number peer local;
   arrived = refl;
   ends = refl;
   unfailing = refl;
@@ -227,11 +250,11 @@ open-step w seen number peer local saw test =
     new : World
     new = record w { records = w.records ++ fresh number peer local 0 ∷ [] }
 
-pub opens : (script lines : List ScriptLine) (state : State) (number : ℕ) (peer local : Endpoint) (old : Replay) (slots : List Slot) (out : List ℕ)
+pub opens : (users : List User) (script lines : List ScriptLine) (state : State) (number : ℕ) (peer local : Endpoint) (old : Replay) (slots : List Slot) (out : List ℕ)
     → slots ≡ old.slots ++ opened_slot number peer local ∷ [] → out ≡ old.out ++ open_shown number
-    → allows state (ScriptLine.Open 1 number peer local) ≡ true → IsBehind script lines state old
-    → IsBehind script (lines ++ ScriptLine.Open 1 number peer local ∷ []) (after state (ScriptLine.Open 1 number peer local)) (record old { slots = slots; out = out })
-opens script lines state number peer local old slots out more written allowed b = record {
+    → allows state (ScriptLine.Open 1 number peer local) ≡ true → HasUsers users (after state (ScriptLine.Open 1 number peer local)) → IsBehind users script lines state old
+    → IsBehind users script (lines ++ ScriptLine.Open 1 number peer local ∷ []) (after state (ScriptLine.Open 1 number peer local)) (record old { slots = slots; out = out })
+opens users script lines state number peer local old slots out more written allowed has b = record {
   s = s;
   w = w;
   played = subst (λ (z : List ℕ). Played script (lines ++ ScriptLine.Open 1 number peer local ∷ []) s w z)
@@ -241,20 +264,21 @@ opens script lines state number peer local old slots out more written allowed b 
       (open-step b.w old.gens.seen number peer local b.mirrors.seen' (ap (λ n. number == n + 1) records-count ∙ allowed)) refl);
   mirrors = record {
     now = b.mirrors.now;
-    users = b.mirrors.users;
+    users' = b.mirrors.users';
     pubs = b.mirrors.pubs;
     seen' = b.mirrors.seen';
     below = b.mirrors.below;
     records = ap (λ z. z ++ fresh number peer local 0 ∷ []) b.mirrors.records
         ∙ (sym (map-append record_of old.slots (opened_slot number peer local ∷ [])) ∙ ap (map record_of) (sym more));
-    slots' = subst (λ (z : List Slot). AreSlots old.gens.configs 1 z s.outsides) (sym more)
-        (slots-more old.gens.configs 1 old.slots (b.s).outsides (opened_slot number peer local) nothing_yet b.mirrors.slots'
-        (subst (λ (n : ℕ). IsSlot old.gens.configs n (opened_slot number peer local) nothing_yet) place (opened-is old.gens.configs number peer local)));
+    slots' = subst (λ (z : List Slot). AreSlots (basis_of b.w) 1 z s.outsides) (sym more)
+        (slots-more (basis_of b.w) 1 old.slots (b.s).outsides (opened_slot number peer local) nothing_yet b.mirrors.slots'
+        (subst (λ (n : ℕ). IsSlot (basis_of b.w) n (opened_slot number peer local) nothing_yet) place (opened-is (basis_of b.w) number peer local)));
     desk = b.mirrors.desk;
     cap' = b.mirrors.cap';
     marks = b.mirrors.marks;
   };
   matches = record {
+    users' = has;
     published' = b.matches.published';
     seen' = b.matches.seen';
     sides = sides-more state.sides (b.s).outsides fresh_side nothing_yet b.matches.sides (refl, refl, refl);
@@ -269,7 +293,7 @@ opens script lines state number peer local old slots out more written allowed b 
     w = record b.w { records = (b.w).records ++ fresh number peer local 0 ∷ [] }
 
     slots-count : length old.slots ≡ length state.sides
-    slots-count = slots-length old.gens.configs 1 old.slots (b.s).outsides b.mirrors.slots' ∙ sym (sides-length state.sides (b.s).outsides b.matches.sides)
+    slots-count = slots-length (basis_of b.w) 1 old.slots (b.s).outsides b.mirrors.slots' ∙ sym (sides-length state.sides (b.s).outsides b.matches.sides)
 
     records-count : length (b.w).records ≡ length state.sides
     records-count = ap length b.mirrors.records ∙ (length-map old.slots record_of ∙ slots-count)

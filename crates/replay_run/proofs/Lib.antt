@@ -3,6 +3,7 @@ pub mod AtTurns
 pub mod Beginning
 pub mod Changing
 pub mod Ending
+pub mod Foreseeing
 pub mod Forms
 pub mod Happening
 pub mod Outsides
@@ -11,5 +12,6 @@ pub mod Playing
 pub mod Rounding
 pub mod Slots
 pub mod TurnLines
+pub mod Tcp
 pub mod Turned
 pub mod Writing

@@ -1,5 +1,5 @@
 -- What a turn has read and written, beside what the script says of the outside.
-use Rattle.std.proofs.Common.{ℕ, ◌≡◌, ◌≤◌, ◌==◌, ◌+◌, ◌∙◌, sym, ap, subst, refl, Bool, true, false, if◌then◌else◌, Option, Some, None, List, [], ◌++◌, length, arith, length-append, length-drop}
+use Rattle.std.proofs.Common.{ℕ, ◌≡◌, ◌≤◌, ◌==◌, ◌+◌, ◌∙◌, sym, ap, subst, refl, Bool, true, false, if◌then◌else◌, Option, Some, None, List, [], ◌∷◌, ◌++◌, length, arith, length-append, length-drop}
 use Rattle.addr_pattern.specs.declared.addr.Addr.{Addr}
 use Rattle.addr_pattern.specs.declared.endpoint.Endpoint.{Endpoint}
 use Rattle.conf_model.specs.declared.protocol.Version.{Version}
@@ -11,10 +11,10 @@ use Rattle.socks_machine.specs.declared.cause.Cause.{Cause}
 use Rattle.socks_machine.specs.declared.record.Chosen.{Chosen}
 use Rattle.std.specs.Int.{w16, to_be_bytes}
 use Rattle.conf_model.specs.Grammar.{spelled_addr}
-use Rattle.socks_machine.specs.Replies.{Answer, answer_to, bytes_of_answer, method_reply}
-use Rattle.socks_machine.specs.Socks.{chosen_reply, success}
+use Rattle.socks_machine.specs.Replies.{Answer, RefusedAt, answer_to, bytes_of_answer, method_reply}
+use Rattle.socks_machine.specs.Socks.{chosen_reply, passed_reply, success}
 use Rattle.socks_machine.specs.Script.{Outside}
-use Rattle.assoc_core.specs.Plain.{plain_to_client, plain_to_target, success_reply, payload_to_client, refusal_owed, no_login}
+use Rattle.assoc_core.specs.Plain.{has_passed, opening_owed, plain_to_client, plain_to_target, refused_at, success_reply, payload_to_client, refusal_owed}
 use Rattle.assoc_core.specs.Turns.{SameOutside, SameTarget}
 use Rattle.replay_run.specs.Mirrors.{TargetIs, TargetMirrors}
 
@@ -65,6 +65,16 @@ chosen-short (Some c) = either (c.method == 255) c.method
     either true m = omega arith
     either false m = omega arith
 
+passed-short : (passed : Bool) → length (passed_reply passed) ≤ 2
+passed-short true = omega arith
+passed-short false = omega arith
+
+opening-short : (c : List ℕ) (chosen : Option Chosen) (cause : Option Cause) → length (opening_owed c chosen cause) ≤ 4
+opening-short c chosen cause =
+    let h = chosen-short chosen in
+    let k = passed-short (has_passed chosen c cause) in
+    omega (arith, h, k, length-append (chosen_reply chosen) (passed_reply (has_passed chosen c cause)))
+
 endpoint-short : (a : Addr) (port : ℕ) → length (spelled_addr a ++ to_be_bytes w16 port) ≤ 19
 endpoint-short (Addr.V4 n) port = omega arith
 endpoint-short (Addr.V6 n) port = omega arith
@@ -79,10 +89,20 @@ IsShort (Answer.Code c) = Unit {0}
 IsShort (Answer.Bytes bs) = length bs ≤ 10
 IsShort Answer.Silence = Unit {0}
 
-answer-short : (cause : Cause) → IsShort (answer_to no_login cause)
-answer-short Cause.NoMethod = omega arith
-answer-short Cause.LoginFailed = omega arith
-answer-short _ = tt
+answer-short : (at : RefusedAt) (cause : Cause) → IsShort (answer_to at cause)
+answer-short at Cause.NoMethod = omega arith
+answer-short at Cause.LoginFailed = omega arith
+answer-short at (Cause.BadVersion place byte) = by at.in_login
+  where
+    by : (b : Bool) → IsShort (if b then Answer.Bytes (1 ∷ 1 ∷ []) else Answer.Code 1)
+    by true = omega arith
+    by false = tt
+answer-short at Cause.Memory = by at.granting_udp
+  where
+    by : (b : Bool) → IsShort (if b then Answer.Code 1 else Answer.Silence)
+    by true = tt
+    by false = tt
+answer-short at _ = tt
 
 bytes-short : (v : Option Version) (a : Answer) → IsShort a → length (bytes_of_answer v a) ≤ 10
 bytes-short None a h = omega arith
@@ -99,18 +119,19 @@ payload-length : (t : List ℕ) (at : Option Endpoint) → length (payload_to_cl
 payload-length t None = omega arith
 payload-length t (Some at) = omega arith
 
-refusal-short : (c : List ℕ) (at : Option Endpoint) (cause : Option Cause) → length (refusal_owed c at cause) ≤ 10
-refusal-short c None None = omega arith
-refusal-short c None (Some cause) = bytes-short (version_of c) (answer_to no_login cause) (answer-short cause)
-refusal-short c (Some at) cause = omega arith
+refusal-short : (c : List ℕ) (chosen : Option Chosen) (at : Option Endpoint) (cause : Option Cause) → length (refusal_owed c chosen at cause) ≤ 10
+refusal-short c chosen None None = omega arith
+refusal-short c chosen None (Some cause) =
+    bytes-short (version_of c) (answer_to (refused_at chosen c cause) cause) (answer-short (refused_at chosen c cause) cause)
+refusal-short c chosen (Some at) cause = omega arith
 
-four-lengths : (a b c d : List ℕ) (n : ℕ) → length a ≤ 2 → length b ≤ 22 → length c ≤ n → length d ≤ 10 → length (a ++ (b ++ (c ++ d))) ≤ 34 + n
+four-lengths : (a b c d : List ℕ) (n : ℕ) → length a ≤ 4 → length b ≤ 22 → length c ≤ n → length d ≤ 10 → length (a ++ (b ++ (c ++ d))) ≤ 36 + n
 four-lengths a b c d n ha hb hc hd = omega (arith, length-append {A = ℕ})
 
-pub owed-c-short : (c t : List ℕ) (chosen : Option Chosen) (at : Option Endpoint) (cause : Option Cause) → length (plain_to_client c t chosen at cause) ≤ 34 + length t
-owed-c-short c t chosen at cause = four-lengths (chosen_reply chosen) (success_reply c at) (payload_to_client t at) (refusal_owed c at cause) (length t)
-    (chosen-short chosen) (success-at-short c at) (payload-length t at) (refusal-short c at cause)
+pub owed-c-short : (c t : List ℕ) (chosen : Option Chosen) (at : Option Endpoint) (cause : Option Cause) → length (plain_to_client c t chosen at cause) ≤ 36 + length t
+owed-c-short c t chosen at cause = four-lengths (opening_owed c chosen cause) (success_reply c at) (payload_to_client t at) (refusal_owed c chosen at cause) (length t)
+    (opening-short c chosen cause) (success-at-short c at) (payload-length t at) (refusal-short c chosen at cause)
 
-pub owed-t-short : (c : List ℕ) (at : Option Endpoint) → length (plain_to_target c at) ≤ length c
-owed-t-short c None = omega arith
-owed-t-short c (Some at) = omega (arith, length-drop {A = ℕ})
+pub owed-t-short : (n : ℕ) (c : List ℕ) (at : Option Endpoint) → length (plain_to_target n c at) ≤ length c
+owed-t-short n c None = omega arith
+owed-t-short n c (Some at) = omega (arith, length-drop {A = ℕ})

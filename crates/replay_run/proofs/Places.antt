@@ -1,7 +1,7 @@
 -- Where an association of a script stands: in the reader's state, outside, and in the replay.
 use Rattle.std.proofs.Common.{ℕ, zero, suc, ◌≡◌, ◌<◌, ◌+◌, subst, refl, Bool, true, Option, Some, None, List, [], ◌∷◌, ◌++◌, length, arith, slice_set}
 use Rattle.std.specs.Prelude.{slice_get}
-use Rattle.conf_model.specs.declared.config.Config.{Config}
+use Rattle.socks_machine.specs.Basis.{Basis}
 use Rattle.socks_machine.specs.Script.{Outside}
 use Rattle.replay_script.specs.declared.state.Side.{Side}
 use Rattle.replay_script.specs.declared.state.State.{State}
@@ -14,7 +14,7 @@ abbrev pub IsSide : Side → Outside → Type 0
 IsSide side o = (side.c ≡ o.c) × (side.end_c ≡ o.end_c) × (side.end_t ≡ o.end_t)
 
 -- an association that is open, and passes a test
-pub record IsPlace (pubs : List Config) (number : ℕ) (test : Side → Bool) (sides : List Side) (os : List Outside) (slots : List Slot) : Type 0 where
+pub record IsPlace (basis : Basis) (number : ℕ) (test : Side → Bool) (sides : List Side) (os : List Outside) (slots : List Slot) : Type 0 where
   pub k : ℕ
   pub side : Side
   pub o : Outside
@@ -25,7 +25,7 @@ pub record IsPlace (pubs : List Config) (number : ℕ) (test : Side → Bool) (s
   pub slot-at : slice_get slots k ≡ Some slot
   pub is : IsSide side o
   pub passes : test side ≡ true
-  pub stands : IsSlot pubs (suc k) slot o
+  pub stands : IsSlot basis (suc k) slot o
 
 same-some : {A : Type 0} (a b : A) → Some a ≡ Some b → a ≡ b
 same-some a b h = cc
@@ -37,26 +37,26 @@ outside-of (x ∷ xs) [] k side h at = absurd h
 outside-of (x ∷ xs) (o ∷ os) zero side h at = (o, refl, subst (λ z. IsSide z o) (same-some x side at) (h.0, h.1, h.2))
 outside-of (x ∷ xs) (o ∷ os) (suc k) side h at = outside-of xs os k side h.3 at
 
-slot-of : (pubs : List Config) (number : ℕ) (slots : List Slot) (os : List Outside) (k : ℕ) (o : Outside) → AreSlots pubs number slots os → slice_get os k ≡ Some o
-    → (slot : Slot) × (slice_get slots k ≡ Some slot) × IsSlot pubs (number + k) slot o
-slot-of pubs number [] [] k o h at = cc
-slot-of pubs number [] (x ∷ os) k o h at = absurd h
-slot-of pubs number (s ∷ ss) [] k o h at = absurd h
-slot-of pubs number (s ∷ ss) (x ∷ os) zero o h at = (s, refl, subst (λ z. IsSlot pubs (number + 0) s z) (same-some x o at) (subst (λ (n : ℕ). IsSlot pubs n s x) (omega arith) h.0))
-slot-of pubs number (s ∷ ss) (x ∷ os) (suc k) o h at =
-    let r = slot-of pubs (suc number) ss os k o h.1 at in (r.0, r.1, subst (λ (n : ℕ). IsSlot pubs n r.0 o) (omega arith) r.2)
+slot-of : (basis : Basis) (number : ℕ) (slots : List Slot) (os : List Outside) (k : ℕ) (o : Outside) → AreSlots basis number slots os → slice_get os k ≡ Some o
+    → (slot : Slot) × (slice_get slots k ≡ Some slot) × IsSlot basis (number + k) slot o
+slot-of basis number [] [] k o h at = cc
+slot-of basis number [] (x ∷ os) k o h at = absurd h
+slot-of basis number (s ∷ ss) [] k o h at = absurd h
+slot-of basis number (s ∷ ss) (x ∷ os) zero o h at = (s, refl, subst (λ z. IsSlot basis (number + 0) s z) (same-some x o at) (subst (λ (n : ℕ). IsSlot basis n s x) (omega arith) h.0))
+slot-of basis number (s ∷ ss) (x ∷ os) (suc k) o h at =
+    let r = slot-of basis (suc number) ss os k o h.1 at in (r.0, r.1, subst (λ (n : ℕ). IsSlot basis n r.0 o) (omega arith) r.2)
 
 passed : (x : Option Side) (test : Side → Bool) → on_side x test ≡ true → (side : Side) × (x ≡ Some side) × (test side ≡ true)
 passed None test h = cc
 passed (Some side) test h = (side, refl, h)
 
-pub placed : (pubs : List Config) (state : State) (number : ℕ) (test : Side → Bool) (os : List Outside) (slots : List Slot) → AreSides state.sides os → AreSlots pubs 1 slots os
-    → on_side (side_of state number) test ≡ true → IsPlace pubs number test state.sides os slots
-placed pubs state zero test os slots sides are h = cc
-placed pubs state (suc k) test os slots sides are h =
+pub placed : (basis : Basis) (state : State) (number : ℕ) (test : Side → Bool) (os : List Outside) (slots : List Slot) → AreSides state.sides os → AreSlots basis 1 slots os
+    → on_side (side_of state number) test ≡ true → IsPlace basis number test state.sides os slots
+placed basis state zero test os slots sides are h = cc
+placed basis state (suc k) test os slots sides are h =
     let p = passed (slice_get state.sides k) test h in
     let o = outside-of state.sides os k p.0 sides p.1 in
-    let s = slot-of pubs 1 slots os k o.0 are o.1 in record {
+    let s = slot-of basis 1 slots os k o.0 are o.1 in record {
       k = k;
       side = p.0;
       o = o.0;
@@ -67,7 +67,7 @@ placed pubs state (suc k) test os slots sides are h =
       slot-at = s.1;
       is = o.2;
       passes = p.2;
-      stands = subst (λ (n : ℕ). IsSlot pubs n s.0 o.0) (omega arith) s.2;
+      stands = subst (λ (n : ℕ). IsSlot basis n s.0 o.0) (omega arith) s.2;
     }
 
 pub sides-set : (sides : List Side) (os : List Outside) (k : ℕ) (side : Side) (o : Outside) → AreSides sides os → IsSide side o
@@ -89,3 +89,11 @@ pub place-within : {A : Type 0} (xs : List A) (k : ℕ) (x : A) → slice_get xs
 place-within [] k x h = cc
 place-within (y ∷ ys) zero x h = omega arith
 place-within (y ∷ ys) (suc k) x h = let r = place-within ys k x h in omega (arith, r)
+
+-- a test of an association is passed only where one is open
+pub side-open : (state : State) (number : ℕ) (test : Side → Bool) → on_side (side_of state number) test ≡ true → 0 < length state.sides
+side-open state zero test h = cc
+side-open state (suc k) test h =
+    let p = passed (slice_get state.sides k) test h in
+    let within = place-within state.sides k p.0 p.1 in
+    omega (arith, within)

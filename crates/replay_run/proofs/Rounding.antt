@@ -3,6 +3,7 @@ use Rattle.std.proofs.Common.{ℕ, zero, suc, ◌≡◌, ◌≢◌, ◌<◌, ◌
 use Rattle.std.specs.Prelude.{drop, slice_get}
 use Rattle.std.proofs.lemmas.List.{drop_all}
 use Rattle.conf_model.specs.declared.config.Config.{Config}
+use Rattle.conf_model.specs.declared.user.User.{User}
 use Rattle.generation.specs.Published.{Generations}
 use Rattle.net_ends.specs.InMemory.{LinkInMemory, NetInMemory}
 use Rattle.socks_machine.specs.declared.record.Record.{Record}
@@ -11,6 +12,7 @@ use Rattle.socks_machine.specs.declared.world.Event.{Event}
 use Rattle.socks_machine.specs.declared.world.World.{World}
 use Rattle.socks_machine.specs.Follows.{IsReplay}
 use Rattle.socks_machine.specs.Script.{Surroundings, going, going_from, is_still, next_in_round}
+use Rattle.socks_machine.specs.Step.{basis_of}
 use Rattle.socks_machine.specs.Transcript.{event_line, ends}
 use Rattle.assoc_core.specs.declared.assoc.Assoc.{Assoc}
 use Rattle.assoc_core.specs.declared.assoc.Ended.{Ended}
@@ -88,9 +90,9 @@ still-true false = refl
 abbrev At : (script : List ScriptLine) (s : Surroundings) (w : World) (numbers : List ℕ × Bool) (lo out : List ℕ) → Type 0
 At script s w numbers lo out = InRounds script s w numbers.0 numbers.1 lo out
 
-behind-over : (script : List ScriptLine) (k : ℕ) (still quiet : Bool) (old new : Replay) (e : Ended LinkInMemory) → IsInRound script k still old
-    → slice_get old.slots k ≡ Some (Slot.Over e) → (new ≡ old) × (quiet ≡ true) → IsInRound script (suc k) (still && quiet) new
-behind-over script k still quiet old new e h at turned = subst (λ (r : Replay). IsInRound script (suc k) (still && quiet) r) (sym turned.0) (record {
+behind-over : (users : List User) (script : List ScriptLine) (k : ℕ) (still quiet : Bool) (old new : Replay) (e : Ended LinkInMemory) → IsInRound users script k still old
+    → slice_get old.slots k ≡ Some (Slot.Over e) → (new ≡ old) × (quiet ≡ true) → IsInRound users script (suc k) (still && quiet) new
+behind-over users script k still quiet old new e h at turned = subst (λ (r : Replay). IsInRound users script (suc k) (still && quiet) r) (sym turned.0) (record {
   s = h.s;
   w = h.w;
   lines_out = h.lines_out;
@@ -103,7 +105,7 @@ behind-over script k still quiet old new e h at turned = subst (λ (r : Replay).
 })
   where
     is-over : (e.state).done ≡ true
-    is-over = (slot-at (old.gens).configs 1 old.slots (h.s).outsides k (Slot.Over e) (h.mirrors).slots' at).2.0
+    is-over = (slot-at (basis_of h.w) 1 old.slots (h.s).outsides k (Slot.Over e) (h.mirrors).slots' at).2.0
 
     here : slice_get (h.w).records k ≡ Some e.state
     here = ap (λ (z : List Record). slice_get z k) (h.mirrors).records ∙ get-map-at record_of old.slots k (Slot.Over e) at
@@ -111,10 +113,10 @@ behind-over script k still quiet old new e h at turned = subst (λ (r : Replay).
     skips : coming h.w k ≡ coming h.w (suc k)
     skips = ap (going_from (suc k)) (drop-here (h.w).records k e.state here) ∙ going-skips (suc k) e.state (drop (suc k) (h.w).records) is-over
 
-behind-going : (script : List ScriptLine) (k : ℕ) (still quiet : Bool) (old new : Replay) (a : Assoc LinkInMemory) (net : NetInMemory)
-    → (h : IsInRound script k still old) → slice_get old.slots k ≡ Some (Slot.Going a net) → IsTurned h.s h.w k old new quiet
-    → IsInRound script (suc k) (still && quiet) new
-behind-going script k still quiet old new a net h at t = record {
+behind-going : (users : List User) (script : List ScriptLine) (k : ℕ) (still quiet : Bool) (old new : Replay) (a : Assoc LinkInMemory) (net : NetInMemory)
+    → (h : IsInRound users script k still old) → slice_get old.slots k ≡ Some (Slot.Going a net) → IsTurned users h.s h.w k old new quiet
+    → IsInRound users script (suc k) (still && quiet) new
+behind-going users script k still quiet old new a net h at t = record {
   s = h.s;
   w = t.world;
   lines_out = h.lines_out;
@@ -134,7 +136,7 @@ behind-going script k still quiet old new a net h at t = record {
 }
   where
     going-on : (a.state).done ≡ false
-    going-on = (((slot-at (old.gens).configs 1 old.slots (h.s).outsides k (Slot.Going a net) (h.mirrors).slots' at).2).stands).plain.undone
+    going-on = (((slot-at (basis_of h.w) 1 old.slots (h.s).outsides k (Slot.Going a net) (h.mirrors).slots' at).2).stands).plain.undone
 
     here : slice_get (h.w).records k ≡ Some a.state
     here = ap (λ (z : List Record). slice_get z k) (h.mirrors).records ∙ get-map-at record_of old.slots k (Slot.Going a net) at
@@ -145,17 +147,17 @@ behind-going script k still quiet old new a net h at t = record {
     taken : InRounds script h.s h.w (suc k ∷ coming h.w (suc k)) still h.lines_out h.out
     taken = subst (λ (ns : List ℕ). At script h.s h.w (next_in_round ns still (Some h.w)) h.lines_out h.out) takes h.rounds
 
-by-slot : (script : List ScriptLine) (k : ℕ) (still quiet : Bool) (old new : Replay) (slot : Slot) → IsInRound script k still old
-    → slice_get old.slots k ≡ Some slot → TurnsAt k old new quiet (Some slot) → IsInRound script (suc k) (still && quiet) new
-by-slot script k still quiet old new (Slot.Going a net) h at t = behind-going script k still quiet old new a net h at (t h.s h.w h.mirrors)
-by-slot script k still quiet old new (Slot.Over e) h at t = behind-over script k still quiet old new e h at t
-by-slot script k still quiet old new Slot.Away h at t = absurd ((slot-at (old.gens).configs 1 old.slots (h.s).outsides k Slot.Away (h.mirrors).slots' at).2)
+by-slot : (users : List User) (script : List ScriptLine) (k : ℕ) (still quiet : Bool) (old new : Replay) (slot : Slot) → IsInRound users script k still old
+    → slice_get old.slots k ≡ Some slot → TurnsAt users k old new quiet (Some slot) → IsInRound users script (suc k) (still && quiet) new
+by-slot users script k still quiet old new (Slot.Going a net) h at t = behind-going users script k still quiet old new a net h at (t h.s h.w h.mirrors)
+by-slot users script k still quiet old new (Slot.Over e) h at t = behind-over users script k still quiet old new e h at t
+by-slot users script k still quiet old new Slot.Away h at t = absurd ((slot-at (basis_of h.w) 1 old.slots (h.s).outsides k Slot.Away (h.mirrors).slots' at).2)
 
-pub turn-of-round : (script : List ScriptLine) (k : ℕ) (still quiet : Bool) (old new : Replay) → k < length old.slots
-    → TurnsAt k old new quiet (slice_get old.slots k) → IsInRound script k still old → IsInRound script (suc k) (still && quiet) new
-turn-of-round script k still quiet old new within t h =
+pub turn-of-round : (users : List User) (script : List ScriptLine) (k : ℕ) (still quiet : Bool) (old new : Replay) → k < length old.slots
+    → TurnsAt users k old new quiet (slice_get old.slots k) → IsInRound users script k still old → IsInRound users script (suc k) (still && quiet) new
+turn-of-round users script k still quiet old new within t h =
     let x = item-at old.slots k within in
-    by-slot script k still quiet old new x.0 h x.1 (subst (λ (z : Option Slot). TurnsAt k old new quiet z) x.1 t)
+    by-slot users script k still quiet old new x.0 h x.1 (subst (λ (z : Option Slot). TurnsAt users k old new quiet z) x.1 t)
 
 -- ---- a whole round
 
@@ -170,8 +172,8 @@ closes-as : (lo out more : List ℕ) → ((lo ++ close_shown) ++ out) ++ more �
 unfolding close_shown
 closes-as lo out more = append_assoc (lo ++ close_line) out more
 
-pub whole-round : (script : List ScriptLine) (still : Bool) (r : Replay) → IsInRound script (length r.slots) still r → OnRound script still r
-whole-round script true r h = record {
+pub whole-round : (users : List User) (script : List ScriptLine) (still : Bool) (r : Replay) → IsInRound users script (length r.slots) still r → OnRound users script still r
+whole-round users script true r h = record {
   s = h.s;
   w = h.w;
   done = subst (λ (out : List ℕ). IsReplay script h.w out) (sym (ap (λ (z : List ℕ). z ++ ends h.w) h.written ∙ closes-as h.lines_out h.out (ends h.w)))
@@ -179,7 +181,7 @@ whole-round script true r h = record {
       (subst (λ (ns : List ℕ). At script h.s h.w (next_in_round ns true (Some h.w)) h.lines_out h.out) (none-comes h.w r.slots (h.mirrors).records) h.rounds));
   mirrors = h.mirrors;
 }
-whole-round script false r h = record {
+whole-round users script false r h = record {
   s = h.s;
   w = h.w;
   lines_out = h.lines_out;
@@ -204,9 +206,9 @@ none-published : (configs : List Config) → length configs ≡ 0 → configs �
 none-published [] h = refl
 none-published (k ∷ ks) h = cc
 
-pub closes-unpublished : (script : List ScriptLine) (state : State) (old : Replay) (out : List ℕ) → out ≡ old.out ++ close_shown → length (old.gens).configs ≡ 0
-    → IsBehind script script state old → IsPlayedOut script (record { desk = old.desk; gens = old.gens; slots = old.slots; out = out })
-closes-unpublished script state old out h none b = record {
+pub closes-unpublished : (users : List User) (script : List ScriptLine) (state : State) (old : Replay) (out : List ℕ) → out ≡ old.out ++ close_shown → length (old.gens).configs ≡ 0
+    → IsBehind users script script state old → IsPlayedOut users script (record { desk = old.desk; gens = old.gens; slots = old.slots; out = out })
+closes-unpublished users script state old out h none b = record {
   s = b.s;
   w = b.w;
   done = subst (λ (z : List ℕ). IsReplay script b.w z) (sym (ap (λ (z : List ℕ). z ++ ends b.w) (h ∙ sym (append-nil (old.out ++ close_shown))) ∙ closes-as old.out [] (ends b.w)))
@@ -214,11 +216,11 @@ closes-unpublished script state old out h none b = record {
   mirrors = b.mirrors;
 }
 
-pub closes-published : (script : List ScriptLine) (state : State) (old : Replay) (gens : Generations) (between out : List ℕ) → between ≡ old.out ++ close_shown
+pub closes-published : (users : List User) (script : List ScriptLine) (state : State) (old : Replay) (gens : Generations) (between out : List ℕ) → between ≡ old.out ++ close_shown
     → gens ≡ record old.gens { seen = length (old.gens).configs } → out ≡ between ++ see_shown (length (old.gens).configs) → 0 < length (old.gens).configs
-    → IsBehind script script state old → IsInRound script 0 true (record { desk = old.desk; gens = gens; slots = old.slots; out = out })
-closes-published script state old gens between out h is k some b =
-    subst (λ (z : Generations). IsInRound script 0 true (record { desk = old.desk; gens = z; slots = old.slots; out = out })) (sym is) (record {
+    → IsBehind users script script state old → IsInRound users script 0 true (record { desk = old.desk; gens = gens; slots = old.slots; out = out })
+closes-published users script state old gens between out h is k some b =
+    subst (λ (z : Generations). IsInRound users script 0 true (record { desk = old.desk; gens = z; slots = old.slots; out = out })) (sym is) (record {
       s = b.s;
       w = new;
       lines_out = old.out;
@@ -230,7 +232,7 @@ closes-published script state old gens between out h is k some b =
       written = k ∙ ap (λ (z : List ℕ). z ++ see_shown (length (old.gens).configs)) h;
       mirrors = record {
         now = (b.mirrors).now;
-        users = (b.mirrors).users;
+        users' = (b.mirrors).users';
         pubs = (b.mirrors).pubs;
         seen' = refl;
         below = omega arith;

@@ -3,7 +3,7 @@ use Rattle.std.proofs.Common.{ℕ, zero, suc, ◌≡◌, ◌+◌, ◌∙◌, sym
 use Rattle.std.specs.Prelude.{slice_get}
 use Rattle.socks_machine.specs.declared.world.TurnEvent.{TurnEvent}
 use Rattle.addr_pattern.specs.declared.endpoint.Endpoint.{Endpoint}
-use Rattle.conf_model.specs.declared.config.Config.{Config}
+use Rattle.socks_machine.specs.Basis.{Basis}
 use Rattle.socks_machine.specs.Follows.{used_up, is_used}
 use Rattle.socks_machine.specs.Script.{Outside, Surroundings, change, change_at}
 use Rattle.replay_run.specs.declared.slot.Slot.{Slot}
@@ -39,33 +39,33 @@ get-set-at (z ∷ zs) zero x y h = refl
 get-set-at (z ∷ zs) (suc k) x y h = get-set-at zs k x y h
 
 -- an association at its place, with its outside
-pub slot-at : (pubs : List Config) (number : ℕ) (slots : List Slot) (os : List Outside) (k : ℕ) (slot : Slot) → AreSlots pubs number slots os → slice_get slots k ≡ Some slot
-    → (o : Outside) × (slice_get os k ≡ Some o) × IsSlot pubs (number + k) slot o
-slot-at pubs number [] os k slot h g = cc
-slot-at pubs number (s ∷ ss) [] k slot h g = absurd h
-slot-at pubs number (s ∷ ss) (o ∷ os) zero slot h g = (o, refl, subst (λ (z : Slot). IsSlot pubs (number + 0) z o) (the-same s slot g) (subst (λ (n : ℕ). IsSlot pubs n s o) (omega arith) h.0))
+pub slot-at : (basis : Basis) (number : ℕ) (slots : List Slot) (os : List Outside) (k : ℕ) (slot : Slot) → AreSlots basis number slots os → slice_get slots k ≡ Some slot
+    → (o : Outside) × (slice_get os k ≡ Some o) × IsSlot basis (number + k) slot o
+slot-at basis number [] os k slot h g = cc
+slot-at basis number (s ∷ ss) [] k slot h g = absurd h
+slot-at basis number (s ∷ ss) (o ∷ os) zero slot h g = (o, refl, subst (λ (z : Slot). IsSlot basis (number + 0) z o) (the-same s slot g) (subst (λ (n : ℕ). IsSlot basis n s o) (omega arith) h.0))
   where
     the-same : (a b : Slot) → Some a ≡ Some b → a ≡ b
     the-same a b h = cc
-slot-at pubs number (s ∷ ss) (o ∷ os) (suc k) slot h g =
-    let r = slot-at pubs (suc number) ss os k slot h.1 g in (r.0, r.1, subst (λ (n : ℕ). IsSlot pubs n slot r.0) (omega arith) r.2)
+slot-at basis number (s ∷ ss) (o ∷ os) (suc k) slot h g =
+    let r = slot-at basis (suc number) ss os k slot h.1 g in (r.0, r.1, subst (λ (n : ℕ). IsSlot basis n slot r.0) (omega arith) r.2)
 
 -- another association and outside at a place
-pub slots-set : (pubs : List Config) (number : ℕ) (slots : List Slot) (os : List Outside) (k : ℕ) (slot : Slot) (o : Outside) → AreSlots pubs number slots os
-    → IsSlot pubs (number + k) slot o → AreSlots pubs number (slice_set slots k slot) (slice_set os k o)
-slots-set pubs number [] [] k slot o h is = tt
-slots-set pubs number [] (o' ∷ os) k slot o h is = absurd h
-slots-set pubs number (s ∷ ss) [] k slot o h is = absurd h
-slots-set pubs number (s ∷ ss) (o' ∷ os) zero slot o h is = (subst (λ (n : ℕ). IsSlot pubs n slot o) (omega arith) is, h.1)
-slots-set pubs number (s ∷ ss) (o' ∷ os) (suc k) slot o h is = (h.0, slots-set pubs (suc number) ss os k slot o h.1 (subst (λ (n : ℕ). IsSlot pubs n slot o) (omega arith) is))
+pub slots-set : (basis : Basis) (number : ℕ) (slots : List Slot) (os : List Outside) (k : ℕ) (slot : Slot) (o : Outside) → AreSlots basis number slots os
+    → IsSlot basis (number + k) slot o → AreSlots basis number (slice_set slots k slot) (slice_set os k o)
+slots-set basis number [] [] k slot o h is = tt
+slots-set basis number [] (o' ∷ os) k slot o h is = absurd h
+slots-set basis number (s ∷ ss) [] k slot o h is = absurd h
+slots-set basis number (s ∷ ss) (o' ∷ os) zero slot o h is = (subst (λ (n : ℕ). IsSlot basis n slot o) (omega arith) is, h.1)
+slots-set basis number (s ∷ ss) (o' ∷ os) (suc k) slot o h is = (h.0, slots-set basis (suc number) ss os k slot o h.1 (subst (λ (n : ℕ). IsSlot basis n slot o) (omega arith) is))
 
 -- one more at the end
-pub slots-more : (pubs : List Config) (number : ℕ) (slots : List Slot) (os : List Outside) (slot : Slot) (o : Outside) → AreSlots pubs number slots os
-    → IsSlot pubs (number + length slots) slot o → AreSlots pubs number (slots ++ slot ∷ []) (os ++ o ∷ [])
-slots-more pubs number [] [] slot o h is = (subst (λ (n : ℕ). IsSlot pubs n slot o) (omega arith) is, tt)
-slots-more pubs number [] (o' ∷ os) slot o h is = absurd h
-slots-more pubs number (s ∷ ss) [] slot o h is = absurd h
-slots-more pubs number (s ∷ ss) (o' ∷ os) slot o h is = (h.0, slots-more pubs (suc number) ss os slot o h.1 (subst (λ (n : ℕ). IsSlot pubs n slot o) (omega arith) is))
+pub slots-more : (basis : Basis) (number : ℕ) (slots : List Slot) (os : List Outside) (slot : Slot) (o : Outside) → AreSlots basis number slots os
+    → IsSlot basis (number + length slots) slot o → AreSlots basis number (slots ++ slot ∷ []) (os ++ o ∷ [])
+slots-more basis number [] [] slot o h is = (subst (λ (n : ℕ). IsSlot basis n slot o) (omega arith) is, tt)
+slots-more basis number [] (o' ∷ os) slot o h is = absurd h
+slots-more basis number (s ∷ ss) [] slot o h is = absurd h
+slots-more basis number (s ∷ ss) (o' ∷ os) slot o h is = (h.0, slots-more basis (suc number) ss os slot o h.1 (subst (λ (n : ℕ). IsSlot basis n slot o) (omega arith) is))
 
 abbrev after_turn : TurnEvent → Outside → Outside
 after_turn ev o = record o { faults = filter (λ f. not (is_used [] f)) o.faults; peer = (if is_some ev.came then None else o.peer) }

@@ -1,13 +1,15 @@
 -- The line `turn` of a script.
 use Rattle.std.proofs.Common.{ℕ, suc, ◌≡◌, ◌<◌, ◌≤◌, ◌-◌, ◌∙◌, sym, ap, subst, refl, Bool, true, false, ◌&&◌, Option, Some, List, [], ◌∷◌, ◌++◌, length, map, arith}
 use Rattle.std.specs.Prelude.{slice_get}
-use Rattle.conf_model.specs.declared.config.Config.{Config}
+use Rattle.conf_model.specs.declared.user.User.{User}
 use Rattle.generation.specs.Published.{Generations}
 use Rattle.socks_machine.specs.declared.record.Record.{Record}
 use Rattle.socks_machine.specs.declared.script.ScriptLine.{ScriptLine}
 use Rattle.socks_machine.specs.declared.world.Event.{Event}
 use Rattle.socks_machine.specs.declared.world.World.{World}
+use Rattle.socks_machine.specs.Basis.{Basis}
 use Rattle.socks_machine.specs.Script.{Outside, Surroundings, is_over, is_silent}
+use Rattle.socks_machine.specs.Step.{basis_of}
 use Rattle.socks_machine.specs.Transcript.{event_line}
 use Rattle.replay_script.specs.declared.state.Side.{Side}
 use Rattle.replay_script.specs.declared.state.State.{State}
@@ -30,25 +32,25 @@ both false b h = cc
 abbrev any_side : Side → Bool
 any_side side = true
 
-place-of : (number : ℕ) (script lines : List ScriptLine) (state : State) (r : Replay) → allows state (ScriptLine.Turn 1 number) ≡ true
-    → (b : IsBehind script lines state r) → IsPlace (r.gens).configs number any_side state.sides (b.s).outsides r.slots
-place-of number script lines state r allowed b =
-    placed (r.gens).configs state number any_side (b.s).outsides r.slots (b.matches).sides (b.mirrors).slots' (both state.seen _ allowed).1
+place-of : (users : List User) (number : ℕ) (script lines : List ScriptLine) (state : State) (r : Replay) → allows state (ScriptLine.Turn 1 number) ≡ true
+    → (b : IsBehind users script lines state r) → IsPlace (basis_of b.w) number any_side state.sides (b.s).outsides r.slots
+place-of users number script lines state r allowed b =
+    placed (basis_of b.w) state number any_side (b.s).outsides r.slots (b.matches).sides (b.mirrors).slots' (both state.seen _ allowed).1
 
 -- the association that takes its turn is there
 pub turn-within : (number : ℕ) (r : Replay) → IsDue (ScriptLine.Turn 1 number) r → number - 1 < length r.slots
 turn-within number r due =
-    let p = place-of number due.script due.lines due.state r due.allowed due.behind in
+    let p = place-of due.users number due.script due.lines due.state r due.allowed due.behind in
     let within = place-within r.slots p.k p.slot p.slot-at in
     let is = p.number' in
     omega (arith, within, is)
 
 -- ---- a turn that happens
 
-happens : (script lines : List ScriptLine) (state : State) (old new : Replay) (still : Bool) (k : ℕ)
-    → (b : IsBehind script lines state old) → is_silent b.w (ScriptLine.Turn 1 (suc k)) ≡ false → IsTurned b.s b.w k old new still
-    → IsBehind script (lines ++ ScriptLine.Turn 1 (suc k) ∷ []) state new
-happens script lines state old new still k b loud t = record {
+happens : (users : List User) (script lines : List ScriptLine) (state : State) (old new : Replay) (still : Bool) (k : ℕ)
+    → (b : IsBehind users script lines state old) → is_silent b.w (ScriptLine.Turn 1 (suc k)) ≡ false → IsTurned users b.s b.w k old new still
+    → IsBehind users script (lines ++ ScriptLine.Turn 1 (suc k) ∷ []) state new
+happens users script lines state old new still k b loud t = record {
   s = b.s;
   w = t.world;
   played = subst (λ (out : List ℕ). Played script (lines ++ ScriptLine.Turn 1 (suc k) ∷ []) b.s t.world out)
@@ -56,13 +58,13 @@ happens script lines state old new still k b loud t = record {
       (subst (λ (s : Surroundings). Played script (lines ++ ScriptLine.Turn 1 (suc k) ∷ []) s t.world (old.out ++ event_line t.world (Event.Turn t.ev))) t.used
       (plays-event script lines b.s b.w t.world old.out (ScriptLine.Turn 1 (suc k)) (Event.Turn t.ev) [] b.played loud (t.ev, refl, t.is_turn) t.stepped t.over));
   mirrors = t.mirrors;
-  matches = subst (λ (gens : Generations). Matches state b.s gens) (sym t.gens) b.matches;
+  matches = subst (λ (gens : Generations). Matches users state b.s gens) (sym t.gens) b.matches;
 }
 
-rests : (script lines : List ScriptLine) (state : State) (old : Replay) (number : ℕ)
-    → (b : IsBehind script lines state old) → is_silent b.w (ScriptLine.Turn 1 number) ≡ true
-    → IsBehind script (lines ++ ScriptLine.Turn 1 number ∷ []) state old
-rests script lines state old number b silent = record {
+rests : (users : List User) (script lines : List ScriptLine) (state : State) (old : Replay) (number : ℕ)
+    → (b : IsBehind users script lines state old) → is_silent b.w (ScriptLine.Turn 1 number) ≡ true
+    → IsBehind users script (lines ++ ScriptLine.Turn 1 number ∷ []) state old
+rests users script lines state old number b silent = record {
   s = b.s;
   w = b.w;
   played = plays-silent script lines b.s b.w old.out (ScriptLine.Turn 1 number) b.played silent;
@@ -80,31 +82,31 @@ GoesOrOver (Slot.Going a net) = (a.state).done ≡ false
 GoesOrOver (Slot.Over e) = (e.state).done ≡ true
 GoesOrOver Slot.Away = ⊥
 
-goes-or-over : (pubs : List Config) (number : ℕ) (slot : Slot) (o : Outside) → IsSlot pubs number slot o → GoesOrOver slot
-goes-or-over pubs number (Slot.Going a net) o h = (h.stands).plain.undone
-goes-or-over pubs number (Slot.Over e) o h = h.0
-goes-or-over pubs number Slot.Away o h = h
+goes-or-over : (basis : Basis) (number : ℕ) (slot : Slot) (o : Outside) → IsSlot basis number slot o → GoesOrOver slot
+goes-or-over basis number (Slot.Going a net) o h = (h.stands).plain.undone
+goes-or-over basis number (Slot.Over e) o h = h.0
+goes-or-over basis number Slot.Away o h = h
 
-by-slot : (script lines : List ScriptLine) (state : State) (old new : Replay) (still : Bool) (k : ℕ) (slot : Slot)
-    → (b : IsBehind script lines state old) → slice_get old.slots k ≡ Some slot → GoesOrOver slot
-    → TurnsAt k old new still (Some slot)
-    → IsBehind script (lines ++ ScriptLine.Turn 1 (suc k) ∷ []) state new
-by-slot script lines state old new still k (Slot.Going a net) b at there t =
-    happens script lines state old new still k b (silent-as b.w old.slots k (Slot.Going a net) (b.mirrors).records at ∙ there) (t b.s b.w b.mirrors)
-by-slot script lines state old new still k (Slot.Over e) b at there t =
-    subst (λ (r : Replay). IsBehind script (lines ++ ScriptLine.Turn 1 (suc k) ∷ []) state r) (sym t.0)
-    (rests script lines state old (suc k) b (silent-as b.w old.slots k (Slot.Over e) (b.mirrors).records at ∙ there))
-by-slot script lines state old new still k Slot.Away b at there t = absurd there
+by-slot : (users : List User) (script lines : List ScriptLine) (state : State) (old new : Replay) (still : Bool) (k : ℕ) (slot : Slot)
+    → (b : IsBehind users script lines state old) → slice_get old.slots k ≡ Some slot → GoesOrOver slot
+    → TurnsAt users k old new still (Some slot)
+    → IsBehind users script (lines ++ ScriptLine.Turn 1 (suc k) ∷ []) state new
+by-slot users script lines state old new still k (Slot.Going a net) b at there t =
+    happens users script lines state old new still k b (silent-as b.w old.slots k (Slot.Going a net) (b.mirrors).records at ∙ there) (t b.s b.w b.mirrors)
+by-slot users script lines state old new still k (Slot.Over e) b at there t =
+    subst (λ (r : Replay). IsBehind users script (lines ++ ScriptLine.Turn 1 (suc k) ∷ []) state r) (sym t.0)
+    (rests users script lines state old (suc k) b (silent-as b.w old.slots k (Slot.Over e) (b.mirrors).records at ∙ there))
+by-slot users script lines state old new still k Slot.Away b at there t = absurd there
 
-pub turn-goes : (number : ℕ) (old new : Replay) (still : Bool) → TurnsAt (number - 1) old new still (slice_get old.slots (number - 1))
-    → GoesBehind (ScriptLine.Turn 1 number) old new
-turn-goes number old new still t script lines state form allowed b =
-    let p = place-of number script lines state old allowed b in
+pub turn-goes : (users : List User) (number : ℕ) (old new : Replay) (still : Bool) → TurnsAt users (number - 1) old new still (slice_get old.slots (number - 1))
+    → GoesBehind users (ScriptLine.Turn 1 number) old new
+turn-goes users number old new still t script lines state form allowed has b =
+    let p = place-of users number script lines state old allowed b in
     let is : number - 1 ≡ p.k = let n = p.number' in omega (arith, n) in
-    let turned : TurnsAt p.k old new still (Some p.slot) =
-    subst (λ (x : Option Slot). TurnsAt p.k old new still x) p.slot-at (subst (λ (n : ℕ). TurnsAt n old new still (slice_get old.slots n)) is t) in
-    subst (λ (n : ℕ). IsBehind script (lines ++ ScriptLine.Turn 1 n ∷ []) state new) (sym p.number')
-    (by-slot script lines state old new still p.k p.slot b p.slot-at (goes-or-over (old.gens).configs (suc p.k) p.slot p.o p.stands) turned)
+    let turned : TurnsAt users p.k old new still (Some p.slot) =
+    subst (λ (x : Option Slot). TurnsAt users p.k old new still x) p.slot-at (subst (λ (n : ℕ). TurnsAt users n old new still (slice_get old.slots n)) is t) in
+    subst (λ (n : ℕ). IsBehind users script (lines ++ ScriptLine.Turn 1 n ∷ []) state new) (sym p.number')
+    (by-slot users script lines state old new still p.k p.slot b p.slot-at (goes-or-over (basis_of b.w) (suc p.k) p.slot p.o p.stands) turned)
 
 -- a turn is due only where the worker has seen what was published
 pub turn-seen : (number : ℕ) (r : Replay) → IsDue (ScriptLine.Turn 1 number) r → HasSeen r.gens

@@ -5,7 +5,6 @@ use Rattle.conf_model.specs.declared.config.Config.{Config}
 use Rattle.conf_model.specs.declared.user.User.{User}
 use Rattle.generation.specs.Published.{Generations}
 use Rattle.socks_machine.specs.Basis.{Basis}
-use Rattle.socks_machine.specs.Socks.{socks}
 use Rattle.net_ends.specs.InMemory.{LinkInMemory, NetInMemory, told_of_link, told_of_net}
 use Rattle.rule_list.specs.Rules.{numbered}
 use Rattle.socks_machine.specs.declared.cause.StopBy.{StopBy}
@@ -17,7 +16,7 @@ use Rattle.socks_machine.specs.declared.world.World.{World}
 use Rattle.socks_machine.specs.Calls.{TurnResult}
 use Rattle.socks_machine.specs.History.{last_mark}
 use Rattle.socks_machine.specs.Script.{Outside, Surroundings}
-use Rattle.socks_machine.specs.Step.{step, made, context_of, set_numbered}
+use Rattle.socks_machine.specs.Step.{basis_of, step, made, context_of, set_numbered}
 use Rattle.socks_machine.specs.Taking.{◌>>=◌}
 use Rattle.socks_machine.specs.Turn.{turn}
 use Rattle.assoc_core.specs.declared.assoc.Assoc.{Assoc}
@@ -97,14 +96,14 @@ target-still (Some l) None net net' o r outer h same holds plan = absurd same
 target-still t (Some l') net net' o r outer h same holds plan = target-behind t net o l' h same
 
 -- an association that goes on
-still-going : (pubs : List Config) (n : ℕ) (a a' : Assoc LinkInMemory) (net net' : NetInMemory) (o : Outside) (next : Next LinkInMemory) (s : Context) (stands' : List Line → List StopBy → Type 0)
-    → IsGoing pubs n a net o → s.basis ≡ socks [] pubs → (t : Turns told_of_link (λ (l : LinkInMemory). l.counts) stands' s 0 (told_of_net net) (told_of_net net') a next) → left_of next ≡ a' → IsPlainRecord a'.state
-    → IsGoing pubs n a' net' o
-still-going pubs n a a' net net' o next s stands' h over t is plain = subst (λ (z : Assoc LinkInMemory). IsGoing pubs n z net' o) is (record {
+still-going : (basis : Basis) (n : ℕ) (a a' : Assoc LinkInMemory) (net net' : NetInMemory) (o : Outside) (next : Next LinkInMemory) (s : Context) (stands' : List Line → List StopBy → Type 0)
+    → IsGoing basis n a net o → s.basis ≡ basis → (t : Turns told_of_link (λ (l : LinkInMemory). l.counts) stands' s 0 (told_of_net net) (told_of_net net') a next) → left_of next ≡ a'
+    → IsPlainRecord (s.basis).users a'.state → IsGoing basis n a' net' o
+still-going basis n a a' net net' o next s stands' h over t is plain = subst (λ (z : Assoc LinkInMemory). IsGoing basis n z net' o) is (record {
   number' = ap (λ (r : Record). r.number) t.state' ∙ (t.number ∙ h.number');
   since = ap (λ (r : Record). r.since) t.state' ∙ (t.since ∙ h.since);
   stands = record {
-    plain = subst (λ (z : Assoc LinkInMemory). IsPlainRecord z.state) (sym is) plain;
+    plain = subst (λ (z : Assoc LinkInMemory). IsPlainRecord basis.users z.state) (sym is) (subst (λ (z : Basis). IsPlainRecord z.users a'.state) over plain);
     direct = subst (λ (z : Basis). GoesDirect z ((left_of next).state).decisions) over (subst (λ (r : Record). GoesDirect s.basis r.decisions) (sym t.state') t.direct);
     client = subst (λ (r : Record). Holds (told_of_link (left_of next).client) r.c r.sent_c r.end_c r.shut_c) (sym t.state') t.client;
     client_ends = t.client_ends;
@@ -120,22 +119,22 @@ still-going pubs n a a' net net' o next s stands' h over t is plain = subst (λ 
   quiet = h.quiet;
 })
 
-slot-still : (pubs : List Config) (n : ℕ) (a : Assoc LinkInMemory) (net net' : NetInMemory) (o : Outside) (next : Next LinkInMemory) (s : Context) (stands' : List Line → List StopBy → Type 0)
-    → IsGoing pubs n a net o → s.basis ≡ socks [] pubs → (t : Turns told_of_link (λ (l : LinkInMemory). l.counts) stands' s 0 (told_of_net net) (told_of_net net') a next) → IsSlot pubs n (slot_of next net') o
-slot-still pubs n a net net' o (Next.Wait a') s stands' h over t = still-going pubs n a a' net net' o (Next.Wait a') s stands' h over t refl t.goes_on
-slot-still pubs n a net net' o (Next.Again a') s stands' h over t = still-going pubs n a a' net net' o (Next.Again a') s stands' h over t refl t.goes_on
-slot-still pubs n a net net' o (Next.Done e) s stands' h over t = t.goes_on
+slot-still : (basis : Basis) (n : ℕ) (a : Assoc LinkInMemory) (net net' : NetInMemory) (o : Outside) (next : Next LinkInMemory) (s : Context) (stands' : List Line → List StopBy → Type 0)
+    → IsGoing basis n a net o → s.basis ≡ basis → (t : Turns told_of_link (λ (l : LinkInMemory). l.counts) stands' s 0 (told_of_net net) (told_of_net net') a next) → IsSlot basis n (slot_of next net') o
+slot-still basis n a net net' o (Next.Wait a') s stands' h over t = still-going basis n a a' net net' o (Next.Wait a') s stands' h over t refl t.goes_on
+slot-still basis n a net net' o (Next.Again a') s stands' h over t = still-going basis n a a' net net' o (Next.Again a') s stands' h over t refl t.goes_on
+slot-still basis n a net net' o (Next.Done e) s stands' h over t = t.goes_on
 
 -- ---- the whole
 
 -- the turn of the association at this place: its event, the world behind it, and that the replay holds what that is
-pub record IsTurned (s : Surroundings) (w : World) (gens : Generations) (slots : List Slot) (k : ℕ) (ev : TurnEvent) (slot : Slot) (left : Record)
+pub record IsTurned (users : List User) (s : Surroundings) (w : World) (gens : Generations) (slots : List Slot) (k : ℕ) (ev : TurnEvent) (slot : Slot) (left : Record)
     (stands' : List Line → List StopBy → Type 0) (cap : ℕ) : Type 0 where
   pub new : World
   pub is_turn : IsTurnOf s w 1 (suc k) ev []
   pub stepped : step w (Event.Turn ev) ≡ Some new
   pub used : used_up s ev [] ≡ s
-  pub mirrors : Mirrors stands' cap s new gens (slice_set slots k slot)
+  pub mirrors : Mirrors users stands' cap s new gens (slice_set slots k slot)
   pub line' : event_line new (Event.Turn ev) ≡ turn_line gens.seen ev (Some left)
   pub others : (j : ℕ) → (j ≡ k → ⊥) → slice_get new.records j ≡ slice_get w.records j
 
@@ -146,13 +145,13 @@ other-places (y ∷ ys) zero (suc j) x h = refl
 other-places (y ∷ ys) (suc k) zero x h = refl
 other-places (y ∷ ys) (suc k) (suc j) x h = other-places ys k j x (λ e. h (ap (λ (n : ℕ). suc n) e))
 
-pub turned : (s : Surroundings) (w : World) (gens : Generations) (config : Config) (slots : List Slot) (k : ℕ) (a : Assoc LinkInMemory) (net net' : NetInMemory) (next : Next LinkInMemory)
+pub turned : (users : List User) (s : Surroundings) (w : World) (gens : Generations) (config : Config) (slots : List Slot) (k : ℕ) (a : Assoc LinkInMemory) (net net' : NetInMemory) (next : Next LinkInMemory)
     (stands stands' : List Line → List StopBy → Type 0) (cap : ℕ)
-    → Mirrors stands cap s w gens slots → numbered gens.configs gens.seen ≡ Some config → slice_get slots k ≡ Some (Slot.Going a net)
+    → Mirrors users stands cap s w gens slots → numbered gens.configs gens.seen ≡ Some config → slice_get slots k ≡ Some (Slot.Going a net)
     → (t : Turns told_of_link (λ (l : LinkInMemory). l.counts) stands' (context w.users w.pubs gens.seen config w.cap w.h w.marks) 0 (told_of_net net) (told_of_net net') a next)
     → last_mark (t.result).marks ≡ None
-    → IsTurned s w gens slots k (event_of 1 a.state.number 0 t.acts (mark_of next)) (slot_of next net') (t.result).left stands' cap
-turned s w gens config slots k a net net' next stands stands' cap m is at t mark = record {
+    → IsTurned users s w gens slots k (event_of 1 a.state.number 0 t.acts (mark_of next)) (slot_of next net') (t.result).left stands' cap
+turned users s w gens config slots k a net net' next stands stands' cap m is at t mark = record {
   new = new;
   is_turn = record {
     worker' = refl;
@@ -171,7 +170,6 @@ turned s w gens config slots k a net net' next stands stands' cap m is at t mark
       new = new;
       generation = gens.seen;
       config = config;
-      pubs = gens.configs;
       n = suc k;
       a = a;
       net = net;
@@ -191,7 +189,7 @@ turned s w gens config slots k a net net' next stands stands' cap m is at t mark
   used = nothing-used s ev k o number found.1 refl going.quiet.faults;
   mirrors = record {
     now = m.now;
-    users = m.users;
+    users' = m.users';
     pubs = m.pubs;
     seen' = m.seen';
     below = m.below;
@@ -199,8 +197,8 @@ turned s w gens config slots k a net net' next stands stands' cap m is at t mark
         ∙ (ap (λ (rs : List Record). slice_set rs k (t.result).left) m.records
         ∙ (ap (λ (r : Record). slice_set (map record_of slots) k r) (sym (slot-record next net' ∙ t.state'))
         ∙ sym (map-set-at record_of slots k (slot_of next net'))));
-    slots' = subst (λ (os : List Outside). AreSlots gens.configs 1 (slice_set slots k (slot_of next net')) os) (set-same s.outsides k o found.1)
-        (slots-set gens.configs 1 slots s.outsides k (slot_of next net') o m.slots' (slot-still gens.configs (1 + k) a net net' o next _ stands' found.2 over t));
+    slots' = subst (λ (os : List Outside). AreSlots (basis_of w) 1 (slice_set slots k (slot_of next net')) os) (set-same s.outsides k o found.1)
+        (slots-set (basis_of w) 1 slots s.outsides k (slot_of next net') o m.slots' (slot-still (basis_of w) (1 + k) a net net' o next _ stands' found.2 refl t));
     desk = t.desk;
     cap' = m.cap';
     marks = mark;
@@ -216,20 +214,17 @@ turned s w gens config slots k a net net' next stands stands' cap m is at t mark
     new : World
     new = made w a.state.number t.result
 
-    found : (o : Outside) × (slice_get s.outsides k ≡ Some o) × IsSlot gens.configs (1 + k) (Slot.Going a net) o
-    found = slot-at gens.configs 1 slots s.outsides k (Slot.Going a net) m.slots' at
+    found : (o : Outside) × (slice_get s.outsides k ≡ Some o) × IsSlot (basis_of w) (1 + k) (Slot.Going a net) o
+    found = slot-at (basis_of w) 1 slots s.outsides k (Slot.Going a net) m.slots' at
 
     o : Outside
     o = found.0
 
-    going : IsGoing gens.configs (suc k) a net o
-    going = subst (λ (n : ℕ). IsGoing gens.configs n a net o) (omega arith) found.2
+    going : IsGoing (basis_of w) (suc k) a net o
+    going = subst (λ (n : ℕ). IsGoing (basis_of w) n a net o) (omega arith) found.2
 
     number : a.state.number ≡ suc k
     number = going.number'
-
-    over : socks w.users w.pubs ≡ socks [] gens.configs
-    over = ap (λ (us : List User). socks us w.pubs) m.users ∙ ap (λ (ks : List Config). socks [] ks) m.pubs
 
     saw : slice_get w.seen 1 ≡ Some gens.seen
     saw = ap (λ (z : List ℕ). slice_get z 1) m.seen'

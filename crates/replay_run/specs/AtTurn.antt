@@ -1,5 +1,6 @@
 -- A turn on the association at a place of the replay.
-use Rattle.std.specs.Prelude.{ℕ, ◌≡◌, Bool, true, Option, Some, None, [], ◌++◌, slice_set}
+use Rattle.std.specs.Prelude.{ℕ, ◌≡◌, Bool, true, Option, Some, None, List, [], ◌++◌, slice_set}
+use Rattle.conf_model.specs.declared.user.User.{User}
 use Rattle.session_desk.specs.Standings.{StandsFor}
 use Rattle.socks_machine.specs.declared.record.Record.{Record}
 use Rattle.socks_machine.specs.declared.world.Event.{Event}
@@ -17,7 +18,7 @@ use Rattle.replay_run.specs.Shown.{turn_shown}
 use Rattle.std.specs.Prelude.{suc, slice_get}
 
 -- the turn of the association at this place: its event, the world behind it, and that the replay holds what that is
-pub record IsTurned (s : Surroundings) (w : World) (k : ℕ) (old new : Replay) (still : Bool) : Type 0 where
+pub record IsTurned (users : List User) (s : Surroundings) (w : World) (k : ℕ) (old new : Replay) (still : Bool) : Type 0 where
   pub ev : TurnEvent
   pub left : Record
   pub world : World
@@ -25,7 +26,7 @@ pub record IsTurned (s : Surroundings) (w : World) (k : ℕ) (old new : Replay) 
   pub stepped : step w (Event.Turn ev) ≡ Some world
   pub used : used_up s ev [] ≡ s
   pub over : is_over (Event.Turn ev) ≡ true
-  pub mirrors : Mirrors (StandsFor new.desk) new.desk.cap s world new.gens new.slots
+  pub mirrors : Mirrors users (StandsFor new.desk) new.desk.cap s world new.gens new.slots
   pub still' : still ≡ is_still ev
   pub line : event_line world (Event.Turn ev) ≡ turn_shown old.gens.seen ev left
   pub out : new.out ≡ old.out ++ turn_shown old.gens.seen ev left
@@ -33,8 +34,8 @@ pub record IsTurned (s : Surroundings) (w : World) (k : ℕ) (old new : Replay) 
   pub others : (j : ℕ) → (j ≡ k → ⊥) → slice_get world.records j ≡ slice_get w.records j
   pub count : (slot : Slot) × (new.slots ≡ slice_set old.slots k slot)
 
-abbrev pub TurnsAt : ℕ → Replay → Replay → Bool → Option Slot → Type 0
-TurnsAt k old new still (Some (Slot.Going a net)) = (s : Surroundings) (w : World) → Mirrors (StandsFor old.desk) old.desk.cap s w old.gens old.slots → IsTurned s w k old new still
-TurnsAt k old new still (Some (Slot.Over e)) = (new ≡ old) × (still ≡ true)
-TurnsAt k old new still (Some Slot.Away) = Unit {0}
-TurnsAt k old new still None = Unit {0}
+abbrev pub TurnsAt : List User → ℕ → Replay → Replay → Bool → Option Slot → Type 0
+TurnsAt users k old new still (Some (Slot.Going a net)) = (s : Surroundings) (w : World) → Mirrors users (StandsFor old.desk) old.desk.cap s w old.gens old.slots → IsTurned users s w k old new still
+TurnsAt users k old new still (Some (Slot.Over e)) = (new ≡ old) × (still ≡ true)
+TurnsAt users k old new still (Some Slot.Away) = Unit {0}
+TurnsAt users k old new still None = Unit {0}

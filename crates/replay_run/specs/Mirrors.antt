@@ -3,6 +3,7 @@ use Rattle.std.specs.Prelude.{ℕ, suc, ◌≡◌, ◌<◌, ◌≤◌, true, fal
 use Rattle.addr_pattern.specs.declared.addr.Addr.{Addr}
 use Rattle.addr_pattern.specs.declared.endpoint.Endpoint.{Endpoint}
 use Rattle.conf_model.specs.declared.config.Config.{Config}
+use Rattle.conf_model.specs.declared.user.User.{User}
 use Rattle.conf_model.specs.Plain.{IsPlain}
 use Rattle.rule_list.specs.Numbers.{FitsNumbers}
 use Rattle.generation.specs.Published.{Generations}
@@ -11,12 +12,12 @@ use Rattle.socks_machine.specs.declared.cause.StopBy.{StopBy}
 use Rattle.socks_machine.specs.declared.lines.Line.{Line}
 use Rattle.socks_machine.specs.declared.record.Record.{Record}
 use Rattle.socks_machine.specs.declared.world.World.{World}
+use Rattle.socks_machine.specs.Basis.{Basis}
 use Rattle.socks_machine.specs.History.{last_mark}
+use Rattle.socks_machine.specs.Inputs.{is_served_input}
 use Rattle.socks_machine.specs.Phase.{is_udp}
 use Rattle.socks_machine.specs.Script.{Outside, Surroundings}
-use Rattle.socks_machine.specs.Served.{is_served_input}
-use Rattle.socks_machine.specs.Socks.{socks}
-use Rattle.socks_machine.specs.Step.{fresh}
+use Rattle.socks_machine.specs.Step.{basis_of, fresh}
 use Rattle.assoc_core.specs.declared.assoc.Assoc.{Assoc}
 use Rattle.assoc_core.specs.Stands.{Stands}
 use Rattle.assoc_core.specs.Turns.{outer_of}
@@ -46,22 +47,22 @@ abbrev pub TargetMirrors : Option LinkInMemory → NetInMemory → Outside → T
 TargetMirrors None net o = TargetIs net.link o × (outer_of net.outcome ≡ o.dial)
 TargetMirrors (Some link) net o = TargetIs link o
 
-pub record IsGoing (pubs : List Config) (number : ℕ) (a : Assoc LinkInMemory) (net : NetInMemory) (o : Outside) : Type 0 where
+pub record IsGoing (basis : Basis) (number : ℕ) (a : Assoc LinkInMemory) (net : NetInMemory) (o : Outside) : Type 0 where
   pub number' : a.state.number ≡ number
   pub since : a.state.since ≡ 0
-  pub stands : Stands told_of_link (socks [] pubs) a
+  pub stands : Stands told_of_link basis a
   pub arrived : a.client.arrived ≡ o.c
   pub ends : a.client.ends ≡ o.end_c
   pub unfailing : a.client.unfailing ≡ true
   pub cap : 64 ≤ a.client.cap
-  pub served : is_served_input o.c ≡ true
+  pub served : is_served_input basis.users o.c ≡ true
   pub target : TargetMirrors a.target net o
   pub quiet : Quiet o
 
-abbrev pub IsSlot : List Config → ℕ → Slot → Outside → Type 0
-IsSlot pubs number (Slot.Going a net) o = IsGoing pubs number a net o
-IsSlot pubs number (Slot.Over e) o = (e.state.done ≡ true) × (is_udp e.state ≡ false) × (e.state.sent_u ≡ [])
-IsSlot pubs number Slot.Away o = ⊥
+abbrev pub IsSlot : Basis → ℕ → Slot → Outside → Type 0
+IsSlot basis number (Slot.Going a net) o = IsGoing basis number a net o
+IsSlot basis number (Slot.Over e) o = (e.state.done ≡ true) × (is_udp e.state ≡ false) × (e.state.sent_u ≡ [])
+IsSlot basis number Slot.Away o = ⊥
 
 -- ---- all associations
 
@@ -73,24 +74,24 @@ record_of (Slot.Going a net) = a.state
 record_of (Slot.Over e) = e.state
 record_of Slot.Away = fresh 0 nowhere nowhere 0
 
-abbrev pub AreSlots : List Config → ℕ → List Slot → List Outside → Type 0
-AreSlots pubs number [] [] = Unit {0}
-AreSlots pubs number (slot ∷ slots) (o ∷ os) = IsSlot pubs number slot o × AreSlots pubs (suc number) slots os
-AreSlots pubs number _ _ = ⊥
+abbrev pub AreSlots : Basis → ℕ → List Slot → List Outside → Type 0
+AreSlots basis number [] [] = Unit {0}
+AreSlots basis number (slot ∷ slots) (o ∷ os) = IsSlot basis number slot o × AreSlots basis (suc number) slots os
+AreSlots basis number _ _ = ⊥
 
 -- what was seen by the reactor and by worker 1
 abbrev pub seen_by_workers : ℕ → List ℕ
 seen_by_workers seen = 0 ∷ seen ∷ []
 
--- the replay holds what the world and the outside are
-pub record Mirrors (stands : List Line → List StopBy → Type 0) (cap : ℕ) (s : Surroundings) (w : World) (gens : Generations) (slots : List Slot) : Type 0 where
+-- the replay holds what the world, with these users, and the outside are
+pub record Mirrors (users : List User) (stands : List Line → List StopBy → Type 0) (cap : ℕ) (s : Surroundings) (w : World) (gens : Generations) (slots : List Slot) : Type 0 where
   pub now : s.now ≡ 0
-  pub users : w.users ≡ []
+  pub users' : w.users ≡ users
   pub pubs : w.pubs ≡ gens.configs
   pub seen' : w.seen ≡ seen_by_workers gens.seen
   pub below : gens.seen ≤ length gens.configs
   pub records : w.records ≡ map record_of slots
-  pub slots' : AreSlots gens.configs 1 slots s.outsides
+  pub slots' : AreSlots (basis_of w) 1 slots s.outsides
   pub desk : stands w.h w.marks
   pub cap' : cap ≡ w.cap
   pub marks : last_mark w.marks ≡ None
@@ -106,8 +107,13 @@ AreSides _ _ = ⊥
 abbrev pub IsConfigured : Config → Type 0
 IsConfigured config = IsPlain config × FitsNumbers config
 
+-- the reader takes these for the users as soon as an association is open
+abbrev pub HasUsers : List User → State → Type 0
+HasUsers users state = 0 < length state.sides → state.users ≡ users
+
 -- the reader's state is what was played
-pub record Matches (state : State) (s : Surroundings) (gens : Generations) : Type 0 where
+pub record Matches (users : List User) (state : State) (s : Surroundings) (gens : Generations) : Type 0 where
+  pub users' : HasUsers users state
   pub published' : state.published ≡ true → 0 < length gens.configs
   pub seen' : state.seen ≡ true → 0 < gens.seen
   pub sides : AreSides state.sides s.outsides

@@ -37,11 +37,11 @@ slot_of (Next.Wait a) net = Slot.Going a net
 slot_of (Next.Again a) net = Slot.Going a net
 slot_of (Next.Done e) net = Slot.Over e
 
--- a turn that was made in this generation at the moment 0, from whatever the desk stood for
-pub record MakesTurn (generation : ℕ) (config : Config) (desk desk' : Book) (a : Assoc LinkInMemory) (net : NetInMemory) (next : Next LinkInMemory) (net' : NetInMemory) : Type 0 where
+-- a turn that was made over these users in this generation at the moment 0, from whatever the desk stood for
+pub record MakesTurn (users : List User) (generation : ℕ) (config : Config) (desk desk' : Book) (a : Assoc LinkInMemory) (net : NetInMemory) (next : Next LinkInMemory) (net' : NetInMemory) : Type 0 where
   pub cap : desk'.cap ≡ desk.cap
   pub mark : desk'.stopped ≡ None
-  pub turns : (users : List User) (pubs : List Config) (h : List Line) (marks : List StopBy) → StandsFor desk h marks → Stands told_of_link (socks users pubs) a → TellsServed (told_of_link a.client)
+  pub turns : (pubs : List Config) (h : List Line) (marks : List StopBy) → StandsFor desk h marks → Stands told_of_link (socks users pubs) a → TellsServed users (told_of_link a.client)
       → numbered pubs generation ≡ Some config → IsPlain config → a.state.since ≡ 0
       → Turns told_of_link (λ (l : LinkInMemory). l.counts) (StandsFor desk') (context users pubs generation config desk.cap h marks) 0 (told_of_net net) (told_of_net net') a next
 

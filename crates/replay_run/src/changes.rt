@@ -1,4 +1,5 @@
-ghost use Rattle.std.specs.Prelude.{◌≡◌, IfOk};
+ghost use Rattle.std.specs.Prelude.{◌≡◌, IfOk, List as Items};
+ghost use Rattle.conf_model.specs.declared.user.User.{User as SomeUser};
 ghost use Rattle.net_ends.specs.Plans.{planned};
 ghost use Rattle.socks_machine.specs.declared.script.ScriptLine.TheVariants.{Client, ClientEnd, TargetEnd, Dial};
 ghost use Rattle.replay_script.specs.Conditions.{IsServedOutcome};
@@ -28,7 +29,7 @@ impl Replay {
     /// The line `client`.
     pub fn client(&mut self, number: u64, bytes: &[u8]) -> Result<(), AllocError>
         requires due { IsDue (Client number bytes.now) self.old }
-        ensures { IfOk result (λ _. GoesBehind (Client number bytes.now) self.old self.new) }
+        ensures { IfOk result (λ _. (users : Items SomeUser) → GoesBehind users (Client number bytes.now) self.old self.new) }
     {
         let at = (number - 1) as usize;
         let mut slot = self.slots.replace(at, Slot::Away);
@@ -40,7 +41,7 @@ impl Replay {
     /// The line `clientend`.
     pub fn client_end(&mut self, number: u64)
         requires due { IsDue (ClientEnd number) self.old }
-        ensures { GoesBehind (ClientEnd number) self.old self.new }
+        ensures { (users : Items SomeUser) → GoesBehind users (ClientEnd number) self.old self.new }
     {
         let at = (number - 1) as usize;
         let mut slot = self.slots.replace(at, Slot::Away);
@@ -51,7 +52,7 @@ impl Replay {
     /// The line `targetend`.
     pub fn target_end(&mut self, number: u64)
         requires due { IsDue (TargetEnd number) self.old }
-        ensures { GoesBehind (TargetEnd number) self.old self.new }
+        ensures { (users : Items SomeUser) → GoesBehind users (TargetEnd number) self.old self.new }
     {
         let at = (number - 1) as usize;
         let mut slot = self.slots.replace(at, Slot::Away);
@@ -62,7 +63,7 @@ impl Replay {
     /// The line `dial`.
     pub fn dial(&mut self, number: u64, outer: Outer)
         requires due { IsDue (Dial number outer) self.old }
-        ensures { GoesBehind (Dial number outer) self.old self.new }
+        ensures { (users : Items SomeUser) → GoesBehind users (Dial number outer) self.old self.new }
     {
         let at = (number - 1) as usize;
         let mut slot = self.slots.replace(at, Slot::Away);

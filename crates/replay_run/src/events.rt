@@ -1,4 +1,5 @@
-ghost use Rattle.std.specs.Prelude.{◌≡◌, ◌<◌, IfOk, IfSome, length};
+ghost use Rattle.std.specs.Prelude.{◌≡◌, ◌<◌, IfOk, IfSome, List as Items, length};
+ghost use Rattle.conf_model.specs.declared.user.User.{User as SomeUser};
 ghost use Rattle.net_ends.specs.InMemory.{fresh_link, fresh_net};
 ghost use Rattle.socks_machine.specs.declared.script.ScriptLine.TheVariants.{Publish, See, Open};
 ghost use Rattle.socks_machine.specs.Step.{fresh};
@@ -37,7 +38,7 @@ fn opened(alloc: Global, number: u64, peer: Endpoint, local: Endpoint) -> Option
 impl Replay {
     /// The line `publish`.
     pub fn publish(&mut self, alloc: Global, config: &Config) -> Result<(), AllocError>
-        ensures { IfOk result (λ _. GoesBehind (Publish config.now) self.old self.new) }
+        ensures { IfOk result (λ _. (users : Items SomeUser) → GoesBehind users (Publish config.now) self.old self.new) }
     {
         let copied = config.copy(alloc)?;
         match self.gens.push(copied) {
@@ -49,7 +50,7 @@ impl Replay {
     /// The line `see`.
     pub fn see(&mut self, alloc: Global) -> Result<(), AllocError>
         requires { 0 < length self.old.gens.configs }
-        ensures { IfOk result (λ _. GoesBehind (See 1) self.old self.new) }
+        ensures { IfOk result (λ _. (users : Items SomeUser) → GoesBehind users (See 1) self.old self.new) }
     {
         let number = self.gens.see();
         show_see(alloc, &mut self.out, number)
@@ -63,7 +64,7 @@ impl Replay {
         peer: Endpoint,
         local: Endpoint,
     ) -> Result<(), AllocError>
-        ensures { IfOk result (λ _. GoesBehind (Open 1 number peer local) self.old self.new) }
+        ensures { IfOk result (λ _. (users : Items SomeUser) → GoesBehind users (Open 1 number peer local) self.old self.new) }
     {
         match opened(alloc, number, peer, local) {
             None => Err(AllocError),

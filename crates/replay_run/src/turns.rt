@@ -14,6 +14,7 @@ use net_ends::{MemLink, MemNet};
 use session_desk::Desk;
 use socks_machine::{NextMark, Record};
 use std::alloc::{AllocError, Global};
+use user_login::Users;
 
 fn mark_of(next: &Next<MemLink>) -> NextMark
     ensures { result ≡ mark_of_next next.now }
@@ -67,14 +68,15 @@ fn is_still(mark: NextMark, made: Totals) -> bool
 pub fn make_turn(
     alloc: Global,
     snap: &Snap,
+    users: &Users,
     desk: &mut Desk,
     assoc: Assoc<MemLink>,
     net: &mut MemNet,
 ) -> Result<Next<MemLink>, AllocError>
     requires { FitsNumbers (arc_value snap.now.config) }
-    ensures { IfOk result (λ next. MakesTurn snap.now.number (arc_value snap.now.config) desk.old desk.new assoc net.old next net.new) }
+    ensures { IfOk result (λ next. MakesTurn users.now snap.now.number (arc_value snap.now.config) desk.old desk.new assoc net.old next net.new) }
 {
-    let next = turn(alloc, assoc, snap.number, &snap.config, desk, net, 0)?;
+    let next = turn(alloc, assoc, snap.number, &snap.config, users, desk, net, 0)?;
     if desk.mark().is_some() {
         return Err(AllocError);
     }

@@ -1,5 +1,7 @@
-use Rattle.std.proofs.Common.{◌∙◌, sym, ap}
+use Rattle.std.proofs.Common.{◌∙◌, sym, ap, subst}
 use Rattle.socks_machine.specs.declared.script.ScriptLine.{ScriptLine}
+use Rattle.replay_run.specs.Behind.{GoesBehind}
+use Rattle.replay_run.proofs.Happening.{gives}
 use Rattle.replay_run.proofs.Forms.{due-as, sees-first, turns-first}
 use Rattle.replay_run.proofs.TurnLines.{see-some}
 use Rattle.replay_run.proofs.state.Replay.line.Goals as goal
@@ -21,3 +23,6 @@ turn-requires c = record { due = due-as c.args.line.now _ c.args.self.now (turns
 
 pub see-requires : goal.see-requires
 see-requires c = see-some c.args.self.now (due-as c.args.line.now _ c.args.self.now (sees-first c.args.line.now _ c.requires.due.form c.in-See.is) c.requires.due)
+
+pub returns-in-UsersAre : goal.returns-in-UsersAre
+returns-in-UsersAre c = subst (λ (l : ScriptLine). GoesBehind c.args.users.now l c.args.self.now c.args.self.now) (sym c.in-UsersAre.is) (gives c.args.users.now _ c.args.self.now)

@@ -22,9 +22,9 @@ pub turning-preserved : goal.turning-preserved
 turning-preserved c = record {
   count = c.in_ok-quiet.ensures.kept ∙ c.turning.invariant.count;
   gens = c.in_ok-quiet.ensures.gens ∙ c.turning.invariant.gens;
-  so_far = λ script h. subst (λ (b : Bool). IsInRound script (c.turning.at + 1) b c.turn_at.new.self) both
-      (subst (λ (n : ℕ). IsInRound script n (c.turning.still && c.in_ok-quiet.quiet) c.turn_at.new.self) (omega arith)
-      (turn-of-round script c.turning.at c.turning.still c.in_ok-quiet.quiet c.turning.self c.turn_at.new.self
+  so_far = λ script h. subst (λ (b : Bool). IsInRound c.args.users.now script (c.turning.at + 1) b c.turn_at.new.self) both
+      (subst (λ (n : ℕ). IsInRound c.args.users.now script n (c.turning.still && c.in_ok-quiet.quiet) c.turn_at.new.self) (omega arith)
+      (turn-of-round c.args.users.now script c.turning.at c.turning.still c.in_ok-quiet.quiet c.turning.self c.turn_at.new.self
       (subst (λ (n : ℕ). c.turning.at < n) (c.len-at-end.ensures ∙ sym c.turning.invariant.count) c.turning-test.true)
       c.in_ok-quiet.ensures.turned (c.turning.invariant.so_far script h)));
 }
@@ -36,8 +36,8 @@ turning-preserved c = record {
     ]
 
 pub returns-clause-round : goal.returns-clause-round
-returns-clause-round c = λ script h. whole-round script c.turning.still c.turning.self
-    (subst (λ (n : ℕ). IsInRound script n c.turning.still c.turning.self) all (c.turning.invariant.so_far script h))
+returns-clause-round c = λ script h. whole-round c.args.users.now script c.turning.still c.turning.self
+    (subst (λ (n : ℕ). IsInRound c.args.users.now script n c.turning.still c.turning.self) all (c.turning.invariant.so_far script h))
   where
     all : c.turning.at ≡ length c.turning.self.slots
     all = let past = c.turning-test.false in let within = c.turning.auto.at-end in let end = c.len-at-end.ensures in let count = c.turning.invariant.count in

@@ -7,5 +7,5 @@ abbrev pub invariant-turning : goal.invariant-turning
 invariant-turning l = record {
   count : length l.self.slots ≡ length l.fn.self.slots;
   gens : l.self.gens ≡ l.fn.self.gens;
-  so_far : (script : List ScriptLine) → IsInRound script 0 true l.fn.self → IsInRound script l.at l.still l.self;
+  so_far : (script : List ScriptLine) → IsInRound l.users script 0 true l.fn.self → IsInRound l.users script l.at l.still l.self;
 }

@@ -6,5 +6,5 @@ use Rattle.replay_run.proofs.state.Replay.rounds.Given as goal
 abbrev pub invariant-rounds : goal.invariant-rounds
 invariant-rounds l = record {
   gens : l.self.gens ≡ l.fn.self.gens;
-  so_far : (script : List ScriptLine) → IsInRound script 0 true l.fn.self → IsInRound script 0 true l.self;
+  so_far : (script : List ScriptLine) → IsInRound l.users script 0 true l.fn.self → IsInRound l.users script 0 true l.self;
 }

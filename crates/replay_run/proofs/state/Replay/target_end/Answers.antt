@@ -2,6 +2,7 @@ use Rattle.std.proofs.Common.{Bool, not}
 use Rattle.replay_run.specs.Changes.{with_target_end}
 use Rattle.socks_machine.specs.declared.script.ScriptLine.{ScriptLine}
 use Rattle.replay_script.specs.declared.state.Side.{Side}
+use Rattle.socks_machine.specs.Step.{basis_of}
 use Rattle.replay_run.specs.declared.slot.Slot.{Slot}
 use Rattle.replay_run.proofs.Changing.{changed, target-end-changes, place-of, place-there, put-back, still-there}
 use Rattle.replay_run.proofs.state.Replay.target_end.Goals as goal
@@ -11,18 +12,18 @@ may_end_target side = not side.end_t
 
 pub replace-slot-requires : goal.replace-slot-requires
 replace-slot-requires c = let d = c.requires.due in
-    place-there c.args.self.now.gens.configs c.args.number may_end_target d.state.sides d.behind.s.outsides c.args.self.now.slots
+    place-there (basis_of d.behind.w) c.args.number may_end_target d.state.sides d.behind.s.outsides c.args.self.now.slots
     (place-of (ScriptLine.TargetEnd c.args.number) c.args.self.now c.args.number may_end_target d d.allowed)
 
 pub set-requires : goal.set-requires
 set-requires c = let d = c.requires.due in
     still-there c.args.self.now.slots c.replace-slot.new.self _ Slot.Away
-    (place-there c.args.self.now.gens.configs c.args.number may_end_target d.state.sides d.behind.s.outsides c.args.self.now.slots
+    (place-there (basis_of d.behind.w) c.args.number may_end_target d.state.sides d.behind.s.outsides c.args.self.now.slots
     (place-of (ScriptLine.TargetEnd c.args.number) c.args.self.now c.args.number may_end_target d d.allowed)) c.replace-slot.ensures.after
 
 pub returns : goal.returns
-returns c = λ script lines state form allowed behind.
-    changed script lines state c.args.self.now c.set.new.self (ScriptLine.TargetEnd c.args.number) c.args.number may_end_target _ _ with_target_end
-    (target-end-changes c.args.number) allowed
+returns c = λ users script lines state form allowed has behind.
+    changed users script lines state c.args.self.now c.set.new.self (ScriptLine.TargetEnd c.args.number) c.args.number may_end_target _ _ with_target_end behind
+    (target-end-changes (basis_of behind.w) c.args.number) allowed
     (put-back c.args.self.now.slots c.replace-slot.new.self c.set.new.self _ c.replace-slot.result Slot.Away c.end_target.new.self with_target_end
-    c.replace-slot.ensures.value c.replace-slot.ensures.after c.end_target.ensures c.set.ensures) behind
+    c.replace-slot.ensures.value c.replace-slot.ensures.after c.end_target.ensures c.set.ensures)

@@ -12,4 +12,4 @@ pub turn_at-requires-clause-within : goal.turn_at-requires-clause-within
 turn_at-requires-clause-within c = turn-within c.args.number c.args.self.now c.requires.due
 
 pub returns : goal.returns
-returns c = turn-goes c.args.number c.args.self.now c.turn_at.new.self c.in_ok-turn_at.field-0 c.in_ok-turn_at.ensures.turned
+returns c = turn-goes c.args.users.now c.args.number c.args.self.now c.turn_at.new.self c.in_ok-turn_at.field-0 c.in_ok-turn_at.ensures.turned
