@@ -17,6 +17,8 @@ use Rattle.net_ends.specs.Streams.{SourceTold}
 use Rattle.net_ends.specs.Told.{more}
 use Rattle.replay_script.specs.declared.fault.ScriptFault.{ScriptFault}
 use Rattle.replay_script.specs.declared.fault.ScriptKind.{ScriptKind}
+use Rattle.user_login.specs.declared.fault.UsersFault.{UsersFault}
+use Rattle.user_login.specs.declared.fault.UsersKind.{UsersKind}
 use Rattle.replay_script.specs.Script.{IsScript, Faulty, longest}
 use Rattle.socks_machine.specs.declared.script.ScriptLine.{ScriptLine}
 use Rattle.socks_machine.specs.declared.world.World.{World}
@@ -193,10 +195,21 @@ conf_kind_text ConfKind.Memory = codes "memory"
 abbrev pub conf_fault_text : ConfFault → List ℕ
 conf_fault_text fault = codes "conf line " ++ (decimal fault.line ++ (codes ": " ++ conf_kind_text fault.kind))
 
+abbrev pub users_kind_text : UsersKind → List ℕ
+users_kind_text UsersKind.BadLine = codes "bad line"
+users_kind_text UsersKind.Repeated = codes "repeated"
+users_kind_text UsersKind.TooMany = codes "too many"
+users_kind_text UsersKind.TooLong = codes "too long"
+users_kind_text UsersKind.Memory = codes "memory"
+
+abbrev pub users_fault_text : UsersFault → List ℕ
+users_fault_text fault = codes "users line " ++ (decimal fault.line ++ (codes ": " ++ users_kind_text fault.kind))
+
 abbrev pub kind_text : ScriptKind → List ℕ
 kind_text ScriptKind.Length = codes "length"
 kind_text ScriptKind.Header = codes "header"
 kind_text (ScriptKind.Conf fault) = conf_fault_text fault
+kind_text (ScriptKind.Users fault) = users_fault_text fault
 kind_text ScriptKind.NotBuilt = codes "not built"
 kind_text ScriptKind.Memory = codes "memory"
 
@@ -236,6 +249,7 @@ abbrev pub end_of : ScriptFault → ScriptKind → End
 end_of fault ScriptKind.Length = End.Script fault
 end_of fault ScriptKind.Header = End.Script fault
 end_of fault (ScriptKind.Conf refused) = End.Script fault
+end_of fault (ScriptKind.Users refused) = End.Script fault
 end_of fault ScriptKind.NotBuilt = End.Script fault
 end_of fault ScriptKind.Memory = End.Memory
 

@@ -1,5 +1,5 @@
 ghost use Rattle.std.specs.Prelude.{◌≡◌, ◌≤◌, ◌+◌, ◌++◌, [], length};
-ghost use Rattle.sockd_main.specs.Quick.{Prints, sink, fault_text as fault_words, conf_fault_text as conf_fault_words, conf_kind_text as conf_kind_words, kind_text as kind_words};
+ghost use Rattle.sockd_main.specs.Quick.{Prints, sink, fault_text as fault_words, conf_fault_text as conf_fault_words, conf_kind_text as conf_kind_words, users_fault_text as users_fault_words, users_kind_text as users_kind_words, kind_text as kind_words};
 
 use crate::end::End;
 use crate::whole::write_all;
@@ -9,6 +9,7 @@ use conf_text::TextFault;
 use itoa::Buffer;
 use net_ends::Sink;
 use replay_script::{ScriptFault, ScriptKind};
+use user_login::{UsersFault, UsersKind};
 
 fn conf_kind_text(kind: ConfKind) -> &'static str
     ensures text { result.now ≡ conf_kind_words kind }
@@ -45,6 +46,31 @@ fn add_conf_fault(text: &mut Short, fault: ConfFault)
     text.add(conf_kind_text(fault.kind).as_bytes());
 }
 
+fn users_kind_text(kind: UsersKind) -> &'static str
+    ensures text { result.now ≡ users_kind_words kind }
+    ensures short { length result.now ≤ 21 }
+{
+    match kind {
+        UsersKind::BadLine => "bad line",
+        UsersKind::Repeated => "repeated",
+        UsersKind::TooMany => "too many",
+        UsersKind::TooLong => "too long",
+        UsersKind::Memory => "memory",
+    }
+}
+
+fn add_users_fault(text: &mut Short, fault: UsersFault)
+    requires { length text.old ≤ 100 }
+    ensures text { text.new ≡ text.old ++ users_fault_words fault }
+    ensures short { length text.new ≤ length text.old + 50 }
+{
+    let mut digits = Buffer::new();
+    text.add(b"users line ");
+    text.add(digits.format(fault.line).as_bytes());
+    text.add(b": ");
+    text.add(users_kind_text(fault.kind).as_bytes());
+}
+
 fn add_kind(text: &mut Short, kind: ScriptKind)
     requires { length text.old ≤ 100 }
     ensures text { text.new ≡ text.old ++ kind_words kind }
@@ -54,6 +80,7 @@ fn add_kind(text: &mut Short, kind: ScriptKind)
         ScriptKind::Length => text.add(b"length"),
         ScriptKind::Header => text.add(b"header"),
         ScriptKind::Conf(fault) => add_conf_fault(text, fault),
+        ScriptKind::Users(fault) => add_users_fault(text, fault),
         ScriptKind::NotBuilt => text.add(b"not built"),
         ScriptKind::Memory => text.add(b"memory"),
     }

@@ -5,6 +5,7 @@ use std::alloc::Global;
 mod checks;
 mod decisions;
 mod failures;
+mod logins;
 mod refusals;
 mod rows;
 

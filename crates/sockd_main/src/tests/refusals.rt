@@ -16,6 +16,9 @@ socks pass { from: 0/0 to: 0/0 }
 
 const OPEN: &str = "open 1 1 10.0.0.5:5000 127.0.0.1:1080\n";
 
+/// A user `abc` whose password is `abc`, as a users file has it.
+const ABC: &str = "abc:ba7816bf8f01cfea414140de5dae2223b00361a396177a9cb410ff61f20015ad\n";
+
 /// Greeting and request of the client, whole.
 const WHOLE: &str = "client 1 05010005010001C633640A0050\n";
 
@@ -44,8 +47,6 @@ const UNSERVED: &[[&str; 3]] = &[
     ["publish 3\n", INTERNAL, "method: none\n"],
     ["publish 18446744073709551615\n", INTERNAL, ""],
     ["publish 18446744073709551616\n", INTERNAL, ""],
-    ["publish 2\n", INTERNAL, "method: username\n"],
-    ["publish 2\n", INTERNAL, "method: username none\n"],
     ["publish 2\n", INTERNAL, "client pass { session.max: 4 }\n"],
     ["publish 2\n", INTERNAL, "socks block { session.max: 0 }\n"],
     ["publish 2\n", INTERNAL, "route { via: 192.0.2.1 }\n"],
@@ -143,14 +144,13 @@ const LINES: &[&str] = &[
     "client 1 \n",
     "client 1 4\n",
     "client 1 4g\n",
-    "client 1 04\n",
-    "client 1 050102\n",
-    "client 1 05020002\n",
-    "client 1 05010004\n",
-    "client 1 0501000502\n",
-    "client 1 05010005010003\n",
+    "client 1 05010005020001010203040050\n",
+    "client 1 05010005030001010203040050\n",
+    "client 1 0501000501000306612e746573740050\n",
+    "client 1 040200500102030400\n",
+    "client 1 040100500000000100612e7465737400\n",
     "clientend 2\n",
-    "clientend 1\n",
+    "users 0\n",
     "targetend 2\n",
     "target 1 00\n",
     "dial 2 refused\n",
@@ -170,7 +170,12 @@ const ORDERS: &[(&[&str], &str)] = &[
     ),
     (&[PUBLISHED, INTERNAL], "sockd: script line 6: not built\n"),
     (
-        &[PUBLISHED, "publish 2\n", INTERNAL, "method: username\n"],
+        &[
+            PUBLISHED,
+            "publish 2\n",
+            INTERNAL,
+            "route { via: 192.0.2.1 }\n",
+        ],
         "sockd: script line 6: not built\n",
     ),
     (
@@ -186,13 +191,30 @@ const ORDERS: &[(&[&str], &str)] = &[
         "sockd: script line 7: not built\n",
     ),
     (
-        &[
-            PASSES,
-            OPEN,
-            "client 1 050100050100010102030400\n",
-            "clientend 1\n",
-        ],
+        &[PASSES, OPEN, "clientend 1\n", "clientend 1\n"],
         "sockd: script line 9: not built\n",
+    ),
+    (
+        &[FIRST, "users 0\n", "users 0\n"],
+        "sockd: script line 3: not built\n",
+    ),
+    (&[FIRST, "users 1\n"], AT_2),
+    (&[FIRST, "users 01\n", ABC], AT_2),
+    (
+        &[FIRST, OPEN, "users 0\n"],
+        "sockd: script line 3: not built\n",
+    ),
+    (
+        &[PUBLISHED, "users 1\n", "abc\n"],
+        "sockd: script line 6: not built\n",
+    ),
+    (
+        &[FIRST, "users 1\n", "abc\n"],
+        "sockd: script line 2: users line 1: bad line\n",
+    ),
+    (
+        &[FIRST, "# users\nusers 3\n", ABC, "# again\n", ABC],
+        "sockd: script line 3: users line 3: repeated\n",
     ),
     (
         &[PASSES, OPEN, "targetend 1\n", "targetend 1\n"],
