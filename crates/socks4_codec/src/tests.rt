@@ -35,7 +35,8 @@ fn requests(rt: HostRuntime) -> Result<(), Fail> {
     let zeros = request(Command::Connect, 0, 0, None);
     let bind = request(Command::Bind, 0xc633_640a, 2, None);
     let name = request(Command::Connect, 1, 0, Some(Span { at: 9, len: 6 }));
-    let rows: [(&[u8], Seen<Request4>); 14] = [
+    let printing = request(Command::Connect, 255, 0, Some(Span { at: 9, len: 2 }));
+    let rows: [(&[u8], Seen<Request4>); 18] = [
         (
             b"\x04\x01\x00\x50\xc6\x33\x64\x0a\x00",
             Seen::Whole(address, 9),
@@ -56,12 +57,17 @@ fn requests(rt: HostRuntime) -> Result<(), Fail> {
             b"\x04\x01\x00\x50\x00\x00\x00\x01\x00a.test\x00",
             Seen::Whole(name, 16),
         ),
+        (
+            b"\x04\x01\x00\x50\x00\x00\x00\xff\x00!~\x00",
+            Seen::Whole(printing, 12),
+        ),
         (b"", Seen::More),
         (b"\x04", Seen::More),
         (b"\x04\x01\x00\x50\xc6\x33\x64", Seen::More),
         (b"\x04\x01\x00\x50\xc6\x33\x64\x0a\x07", Seen::More),
         (b"\x04\x01\x00\x50\x00\x00\x00\x01\x00a.test", Seen::More),
         (b"\x05", Seen::Bad(0, 5, BadKind::Version)),
+        (b"\x04\x00", Seen::Bad(1, 0, BadKind::Command)),
         (b"\x04\x03", Seen::Bad(1, 3, BadKind::Command)),
         (
             b"\x04\x01\x00\x50\x00\x00\x00\x01\x00\x00",
@@ -70,6 +76,14 @@ fn requests(rt: HostRuntime) -> Result<(), Fail> {
         (
             b"\x04\x01\x00\x50\x00\x00\x00\x01\x00a\x7f",
             Seen::Bad(10, 127, BadKind::Field),
+        ),
+        (
+            b"\x04\x01\x00\x50\x00\x00\x00\xff\x00 ",
+            Seen::Bad(9, 32, BadKind::Field),
+        ),
+        (
+            b"\x04\x01\x00\x50\x00\x00\x00\x01\x00a\x80",
+            Seen::Bad(10, 128, BadKind::Field),
         ),
     ];
     for (bytes, answer) in rows {
@@ -93,6 +107,21 @@ fn long_users(rt: HostRuntime) -> Result<(), Fail> {
         ..request(Command::Connect, 0x0101_0101, 255, None)
     };
     assert_eq!(rt; answer_of(read_request4(&bytes)), Seen::Whole(fields, 264));
+    Ok(())
+}
+
+#[test]
+fn long_names(rt: HostRuntime) -> Result<(), Fail> {
+    let mut bytes = [b'n'; 265];
+    bytes[..9].copy_from_slice(b"\x04\x01\x00\x50\x00\x00\x00\x01\x00");
+    assert_eq!(rt;
+        answer_of(read_request4(&bytes)),
+        Seen::Bad(264, b'n', BadKind::Field)
+    );
+    assert_eq!(rt; answer_of(read_request4(&bytes[..264])), Seen::More);
+    bytes[264] = 0;
+    let fields = request(Command::Connect, 1, 0, Some(Span { at: 9, len: 255 }));
+    assert_eq!(rt; answer_of(read_request4(&bytes)), Seen::Whole(fields, 265));
     Ok(())
 }
 

@@ -45,6 +45,14 @@ fn greetings(rt: HostRuntime) -> Result<(), Fail> {
     for (bytes, answer) in rows {
         assert_eq!(rt; answer_of(read_greeting(bytes)), answer);
     }
+    let mut most = [1u8; 257];
+    most[..2].copy_from_slice(b"\x05\xff");
+    let methods = Span { at: 2, len: 255 };
+    assert_eq!(rt; answer_of(read_greeting(&most[..256])), Seen::More);
+    assert_eq!(rt;
+        answer_of(read_greeting(&most)),
+        Seen::Whole(Greeting { methods }, 257)
+    );
     assert_eq!(rt;
         write_greeting(false).as_slice(),
         b"\x05\x01\x00".as_slice()
@@ -84,7 +92,8 @@ fn requests(rt: HostRuntime) -> Result<(), Fail> {
     let address = request(Command::Connect, HostAt::Addr(Addr::V4(0xc633_640a)), 80);
     let long = request(Command::UdpAssociate, HostAt::Addr(Addr::V6(V6)), 40000);
     let name = request(Command::Connect, HostAt::Name(Span { at: 5, len: 6 }), 443);
-    let rows: [(&[u8], Seen<Request5>); 13] = [
+    let printing = request(Command::Bind, HostAt::Name(Span { at: 5, len: 2 }), 80);
+    let rows: [(&[u8], Seen<Request5>); 19] = [
         (
             b"\x05\x01\x00\x01\xc6\x33\x64\x0a\x00\x50",
             Seen::Whole(address, 10),
@@ -98,22 +107,37 @@ fn requests(rt: HostRuntime) -> Result<(), Fail> {
             Seen::Whole(long, 22),
         ),
         (b"\x05\x01\x00\x03\x06a.test\x01\xbb", Seen::Whole(name, 13)),
+        (b"\x05\x02\x00\x03\x02!~\x00\x50", Seen::Whole(printing, 9)),
         (b"", Seen::More),
         (b"\x05\x01", Seen::More),
         (b"\x05\x01\x00\x01\xc6\x33\x64\x0a\x00", Seen::More),
         (b"\x05\x01\x00\x03\x06a.test\x01", Seen::More),
         (b"\x04\x01", Seen::Bad(0, 4, BadKind::Version)),
+        (b"\x06", Seen::Bad(0, 6, BadKind::Version)),
+        (b"\x05\x00", Seen::Bad(1, 0, BadKind::Command)),
         (b"\x05\x04", Seen::Bad(1, 4, BadKind::Command)),
+        (b"\x05\x01\x00\x00", Seen::Bad(3, 0, BadKind::Atyp)),
         (b"\x05\x01\x00\x02", Seen::Bad(3, 2, BadKind::Atyp)),
+        (b"\x05\x01\x00\x05", Seen::Bad(3, 5, BadKind::Atyp)),
         (b"\x05\x01\x00\x03\x00", Seen::Bad(4, 0, BadKind::Field)),
         (
             b"\x05\x01\x00\x03\x06a\x7f",
             Seen::Bad(6, 127, BadKind::Field),
         ),
+        (b"\x05\x01\x00\x03\x02 a", Seen::Bad(5, 32, BadKind::Field)),
     ];
     for (bytes, answer) in rows {
         assert_eq!(rt; answer_of(read_request5(bytes)), answer);
     }
+    let mut long = [b'n'; 262];
+    long[..5].copy_from_slice(b"\x05\x01\x00\x03\xff");
+    let fields = request(
+        Command::Connect,
+        HostAt::Name(Span { at: 5, len: 255 }),
+        0x6e6e,
+    );
+    assert_eq!(rt; answer_of(read_request5(&long[..261])), Seen::More);
+    assert_eq!(rt; answer_of(read_request5(&long)), Seen::Whole(fields, 262));
     Ok(())
 }
 

@@ -93,12 +93,14 @@ fn shown_users(alloc: Global, text: &[u8]) -> Result<String, Fail> {
     Ok(out)
 }
 
-/// A text in which each `@` stands for the digits of a digest.
+/// A text in which each `@` stands for the digits of a digest, and each `%` for one digit less.
 fn with_digits(alloc: Global, short: &[u8]) -> Result<Text, Fail> {
     let mut text = Text::make(alloc);
     for byte in short {
         if *byte == b'@' {
             text.add(b"ba7816bf8f01cfea414140de5dae2223b00361a396177A9CB410FF61F20015AD")?;
+        } else if *byte == b'%' {
+            text.add(b"ba7816bf8f01cfea414140de5dae2223b00361a396177a9cb410ff61f20015a")?;
         } else {
             text.push(*byte)?;
         }
@@ -109,7 +111,7 @@ fn with_digits(alloc: Global, short: &[u8]) -> Result<Text, Fail> {
 #[test]
 fn users_files(rt: HostRuntime) -> Result<(), Fail> {
     let alloc = rt.alloc();
-    let rows: [(&[u8], &str); 21] = [
+    let rows: [(&[u8], &str); 22] = [
         (b"", ""),
         (b"\n\r\n# a:@\n", ""),
         (b"a:@", "a "),
@@ -121,6 +123,7 @@ fn users_files(rt: HostRuntime) -> Result<(), Fail> {
         (b"#\r\n\r\r\n", "2 BadLine"),
         (b"a:@\r\r\n", "1 BadLine"),
         (b"a:0@\n", "1 BadLine"),
+        (b"a:%\n", "1 BadLine"),
         (b"a:@0\n", "1 BadLine"),
         (b"a:@@\n", "1 BadLine"),
         (b"a:12\n", "1 BadLine"),
@@ -153,6 +156,17 @@ fn many(alloc: Global, count: u32) -> Result<Text, Fail> {
         text.push(b'\n')?;
     }
     Ok(text)
+}
+
+#[test]
+fn the_most_users(rt: HostRuntime) -> Result<(), Fail> {
+    let alloc = rt.alloc();
+    let text = many(alloc, 4096)?;
+    let Ok(users) = Users::read(alloc, text.as_slice()) else {
+        return Err(Fail::from("4,096 users"));
+    };
+    assert_eq!(rt; users.as_slice().len(), 4096);
+    Ok(())
 }
 
 #[test]
