@@ -10,13 +10,10 @@ ghost use Rattle.handshake_core.specs.Whole.{OnSplit};
 
 use crate::asked::{Asked, read_asked4, read_asked5};
 use crate::request::Request;
-use addr_pattern::{Front, Host, Name};
+use addr_pattern::{Front, Name};
 use conf_model::{Command, Method, Version};
 use socks5_codec::read_greeting;
 use user_login::{LoginAt, Users, read_login};
-
-/// The most bytes of a client that are served.
-const LONGEST: usize = 65_535;
 
 /// What is asked for, with its version, its method, its user and the length of its prelude.
 fn request(
@@ -109,11 +106,11 @@ pub fn whole_request(users: &Users, method: u8, bytes: &[u8]) -> Option<Request>
     }
 }
 
-/// Whether a request is served: a CONNECT to an address.
+/// Whether a request is served: a CONNECT.
 fn is_served_request(request: &Request) -> bool
     ensures { result ≡ is_served_request_of (request_in request.now) }
 {
-    matches!(request.command, Command::Connect) && matches!(request.host, Host::Addr(_))
+    matches!(request.command, Command::Connect)
 }
 
 /// Whether the input is served where this method was answered to its greeting, if there is one.
@@ -130,5 +127,5 @@ fn is_served_by(users: &Users, method: u8, bytes: &[u8]) -> bool
 pub fn is_served_input(users: &Users, bytes: &[u8]) -> bool
     ensures { result ≡ is_served_input_of users.now bytes.now }
 {
-    is_served_by(users, 0, bytes) && is_served_by(users, 2, bytes) && bytes.len() <= LONGEST
+    is_served_by(users, 0, bytes) && is_served_by(users, 2, bytes)
 }

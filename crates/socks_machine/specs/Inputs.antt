@@ -1,7 +1,6 @@
--- Which input of a client is served, over the users: any, but for a request of another command than CONNECT or to a name
--- (RFC 1928, section 4, and the SOCKS 4 and 4A memos), and at most 65,535 bytes in all.
-use Rattle.std.specs.Prelude.{ℕ, Bool, true, false, ◌&&◌, nat_le, Some, List, length}
-use Rattle.addr_pattern.specs.declared.host.Host.{Host}
+-- Which input of a client is served, over the users: any, but for a request of another command than CONNECT (RFC 1928, section 4, and
+-- the SOCKS 4 memo).
+use Rattle.std.specs.Prelude.{ℕ, Bool, true, false, ◌&&◌, Some, List}
 use Rattle.conf_model.specs.declared.protocol.Command.{Command}
 use Rattle.conf_model.specs.declared.user.User.{User}
 use Rattle.conf_model.specs.Handshake.{Request, Split, split}
@@ -10,12 +9,8 @@ abbrev pub is_connect_command : Command → Bool
 is_connect_command Command.Connect = true
 is_connect_command _ = false
 
-abbrev pub is_address : Host → Bool
-is_address (Host.Addr a) = true
-is_address _ = false
-
 abbrev pub is_served_request : Request → Bool
-is_served_request q = is_connect_command q.command && is_address q.host
+is_served_request q = is_connect_command q.command
 
 -- what isn't a whole prelude is served
 abbrev pub is_served_split : Split → Bool
@@ -24,5 +19,4 @@ is_served_split _ = true
 
 -- whichever of the two methods is answered to the greeting, 00 or 02 (RFC 1928, section 3)
 abbrev pub is_served_input : List User → List ℕ → Bool
-is_served_input users c =
-    is_served_split (split users (Some 0) c) && (is_served_split (split users (Some 2) c) && nat_le (length c) 65535)
+is_served_input users c = is_served_split (split users (Some 0) c) && is_served_split (split users (Some 2) c)
