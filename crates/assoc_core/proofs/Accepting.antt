@@ -166,7 +166,8 @@ fresh-turns told counts stands users pubs generation config cap h marks now net 
       behind = r;
       taken' = λ worker. refl;
       dials = refl;
-      lookups = record { lookups = refl; plan = refl };
+      lookups = refl;
+      lookup_plan = refl;
       plan' = refl;
       outer' = tt;
       stops_c = λ worker. StopsReading.unread (record { behind = r; taken' = refl; unread' = refl });
@@ -209,7 +210,8 @@ fresh-turns told counts stands users pubs generation config cap h marks now net 
       behind = r;
       taken' = λ worker. refl;
       dials = refl;
-      lookups = record { lookups = refl; plan = refl };
+      lookups = refl;
+      lookup_plan = refl;
       plan' = refl;
       outer' = tt;
       stops_c = λ worker. StopsReading.unread (record { behind = r; taken' = refl; unread' = refl });

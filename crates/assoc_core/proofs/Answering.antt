@@ -127,7 +127,7 @@ abbrev pub with_link : {L : Type 0} → Assoc L → Record → L → Assoc L
 with_link b r client = record { state = r; client = client; target = b.target }
 
 pub waits-for : {L : Type 0} (told : L → Told) (counts : L → Counts) (stands : List Line → List StopBy → Type 0) (users : List User) (pubs : List Config) (generation : ℕ) (config : Config) (most : ℕ) (h : List Line) (marks : List StopBy)
-    (now : ℕ) (net : NetTold) (a b : Assoc L) (client : L) (s : Record) (full : Bool) (outcome : Sent) → HasHeard told counts (socks users pubs) generation config a b Heard.NotYet → (a.state).since ≡ now → stands h marks
+    (now : ℕ) (net : NetTold) (a b : Assoc L) (client : L) (s : Record) (full : Bool) (outcome : Sent) → HasHeard told counts (socks users pubs) generation config a b None Heard.NotYet → (a.state).since ≡ now → stands h marks
     → s ≡ (let r = b.state in record r { sent_c = s.sent_c })
     → Sends (told b.client) (told client) (counts b.client) (counts client) (b.state).sent_c s.sent_c (drop (length (b.state).sent_c) (owed_c b.state)) outcome
     → ((rest : List ℕ) → SendEnds (told client) (counts b.client) (counts client) rest outcome → (full ≡ false → rest ≡ []) × (full ≡ true → (0 < length rest) × IsFull (told client) × Rose (counts b.client).idle_writes (counts client).idle_writes))
@@ -198,7 +198,7 @@ waits-for told counts stands users pubs generation config most h marks now net a
 -- ---- the write has failed
 
 pub writes-fail : {L : Type 0} (told : L → Told) (counts : L → Counts) (stands : List Line → List StopBy → Type 0) (users : List User) (pubs : List Config) (generation : ℕ) (config : Config) (most : ℕ) (h : List Line) (marks : List StopBy)
-    (now : ℕ) (net : NetTold) (a b : Assoc L) (client : L) (s : Record) (e : Ended L) → HasHeard told counts (socks users pubs) generation config a b Heard.NotYet → (a.state).since ≡ now
+    (now : ℕ) (net : NetTold) (a b : Assoc L) (client : L) (s : Record) (e : Ended L) → HasHeard told counts (socks users pubs) generation config a b None Heard.NotYet → (a.state).since ≡ now
     → s ≡ (let r = b.state in record r { sent_c = s.sent_c })
     → Sends (told b.client) (told client) (counts b.client) (counts client) (b.state).sent_c s.sent_c (drop (length (b.state).sent_c) (owed_c b.state)) Sent.Failed
     → (is_udp s ≡ false → Closed stands h marks Cause.ClientFault (with_link b s client) e)

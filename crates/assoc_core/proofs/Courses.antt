@@ -1,5 +1,6 @@
 -- What a record that is served and has no cause has decided, by how far it has come.
-use Rattle.std.proofs.Common.{ℕ, ◌≡◌, refl, true, Option, Some, None, is_some, List, [], ◌∷◌, sym, subst, Result, Ok, Err, IfOk}
+use Rattle.std.proofs.Common.{ℕ, ◌≡◌, refl, true, Option, Some, None, is_some, List, [], ◌∷◌, sym, subst, ◌∙◌, Result, Ok, Err, IfOk}
+use Rattle.addr_pattern.specs.declared.addr.Addr.{Addr}
 use Rattle.addr_pattern.specs.declared.endpoint.Endpoint.{Endpoint}
 use Rattle.rule_list.specs.declared.facts.Facts.{Facts}
 use Rattle.rule_list.specs.declared.verdict.Verdict.{Verdict}
@@ -9,7 +10,7 @@ use Rattle.socks_machine.specs.declared.record.Record.{Record}
 use Rattle.socks_machine.specs.Decisions.{reached_at}
 use Rattle.conf_model.specs.declared.user.User.{User}
 use Rattle.assoc_core.specs.declared.one_turn.Course.{Course}
-use Rattle.assoc_core.specs.Course.{IsCourse}
+use Rattle.assoc_core.specs.Course.{course_of}
 use Rattle.net_ends.specs.Counts.{Counts}
 use Rattle.net_ends.specs.Nets.{NetTold}
 use Rattle.net_ends.specs.Told.{Told}
@@ -18,53 +19,113 @@ use Rattle.socks_machine.specs.declared.lines.Line.{Line}
 use Rattle.socks_machine.specs.Calls.{Context}
 use Rattle.assoc_core.specs.declared.assoc.Assoc.{Assoc}
 use Rattle.assoc_core.specs.declared.assoc.Next.{Next}
-use Rattle.assoc_core.specs.Plain.{HasDecided}
+use Rattle.assoc_core.specs.Plain.{HasDecided, LookedUp, Judged, Dialled, Sought, behind_lookup, name_sought}
 use Rattle.assoc_core.specs.Reaching.{SameDesk}
 use Rattle.assoc_core.specs.Turns.{Turns}
+use Rattle.assoc_core.proofs.PlainRecords.{decided-forms, at-behind}
 
 caused : {A : Type 0} (k : Option Cause) → k ≡ None → is_some k ≡ true → A
 caused None e h = cc
 caused (Some k) e h = cc
 
-pub at-accept : (ds : List Decision) → IsCourse ds Course.Accept → ds ≡ []
-at-accept [] h = refl
-at-accept (d ∷ []) h = absurd h
-at-accept (d ∷ e ∷ []) h = absurd h
-at-accept (d ∷ e ∷ f ∷ ds) h = absurd h
+abbrev IsGrant : Decision → Type 0
+IsGrant (Decision.Granted g facts verdict route refused) = Unit {0}
+IsGrant _ = ⊥
 
-pub at-talk : (users : List User) (r : Record) (ds : List Decision) → HasDecided users r ds → IsCourse ds Course.Talk → (g : ℕ) × ((rule : Option ℕ) × (ds ≡ Decision.Opened g rule None ∷ []))
-at-talk users r [] h c = absurd c
-at-talk users r (Decision.Opened g rule None ∷ []) h c = (g, (rule, refl))
-at-talk users r (Decision.Opened g rule (Some k) ∷ []) h c = absurd h
-at-talk users r (d ∷ []) h c = absurd h
-at-talk users r (d ∷ e ∷ []) h c = absurd c
-at-talk users r (d ∷ e ∷ f ∷ ds) h c = absurd c
+course-granted : (g : ℕ) (rule : Option ℕ) (s : Option Sought) (d : Decision) → IsGrant d → course_of (Decision.Opened g rule None ∷ behind_lookup s (d ∷ [])) ≡ Course.Reach
+course-granted g rule None (Decision.Granted g' facts verdict route refused) h = refl
+course-granted g rule (Some l) d h = refl
+course-granted g rule None _ h = absurd h
+
+course-reached : (g : ℕ) (rule : Option ℕ) (s : Option Sought) (d e : Decision) → IsGrant d → course_of (Decision.Opened g rule None ∷ behind_lookup s (d ∷ e ∷ [])) ≡ Course.Relay
+course-reached g rule None (Decision.Granted g' facts verdict route refused) e h = refl
+course-reached g rule (Some l) d e h = refl
+course-reached g rule None _ e h = absurd h
+
+other-course : {A : Type 0} (x y z : Course) → x ≡ y → x ≡ z → (y ≡ z → ⊥) → A
+other-course x y z h k f = absurd (f (sym h ∙ k))
+
+pub at-accept : (users : List User) (r : Record) (ds : List Decision) → HasDecided users r ds → course_of ds ≡ Course.Accept → ds ≡ []
+at-accept users r ds h c = decided-forms users r (λ ds. course_of ds ≡ Course.Accept → ds ≡ []) (record {
+  nothing = λ fresh' e. refl;
+  opened' = λ g rule d e. absurd (cc);
+  looked' = λ g rule name found d e. absurd (cc);
+  granted' = λ g rule s g' facts verdict route refused d e. other-course _ _ _ (course-granted g rule s (Decision.Granted g' facts verdict route refused) tt) e (λ x. cc);
+  reached' = λ g rule s g' facts verdict route to at d e. other-course _ _ _ (course-reached g rule s (Decision.Granted g' facts verdict route None) (Decision.Reached to at) tt) e (λ x. cc);
+}) ds h c
+
+abbrev AtTalk : List Decision → Type 0
+AtTalk ds = (g : ℕ) × ((rule : Option ℕ) × (ds ≡ Decision.Opened g rule None ∷ []))
+
+pub at-talk : (users : List User) (r : Record) (ds : List Decision) → HasDecided users r ds → course_of ds ≡ Course.Talk → AtTalk ds
+at-talk users r ds h c = decided-forms users r (λ ds. course_of ds ≡ Course.Talk → AtTalk ds) (record {
+  nothing = λ fresh' e. absurd (cc);
+  opened' = λ g rule d e. (g, (rule, refl));
+  looked' = λ g rule name found d e. absurd (cc);
+  granted' = λ g rule s g' facts verdict route refused d e. other-course _ _ _ (course-granted g rule s (Decision.Granted g' facts verdict route refused) tt) e (λ x. cc);
+  reached' = λ g rule s g' facts verdict route to at d e. other-course _ _ _ (course-reached g rule s (Decision.Granted g' facts verdict route None) (Decision.Reached to at) tt) e (λ x. cc);
+}) ds h c
+
+pub record AtJudge (ds : List Decision) : Type 0 where
+  pub g : ℕ
+  pub rule : Option ℕ
+  pub sought : Sought
+  pub is : ds ≡ Decision.Opened g rule None ∷ behind_lookup (Some sought) []
+
+was-found : (users : List User) (r : Record) (g : ℕ) (rule : Option ℕ) (name : List ℕ) (found : Option Addr) → LookedUp users r name found → r.cause ≡ None → AtJudge (Decision.Opened g rule None ∷ Decision.Looked name found ∷ [])
+was-found users r g rule name None d none = caused r.cause none (d.stands refl)
+was-found users r g rule name (Some a) d none = record { g = g; rule = rule; sought = record { name = name; addr = a }; is = refl }
+
+pub at-judge : (users : List User) (r : Record) (ds : List Decision) → HasDecided users r ds → r.cause ≡ None → course_of ds ≡ Course.Judge → AtJudge ds
+at-judge users r ds h none c = decided-forms users r (λ ds. course_of ds ≡ Course.Judge → AtJudge ds) (record {
+  nothing = λ fresh' e. absurd (cc);
+  opened' = λ g rule d e. absurd (cc);
+  looked' = λ g rule name found d e. was-found users r g rule name found d none;
+  granted' = λ g rule s g' facts verdict route refused d e. other-course _ _ _ (course-granted g rule s (Decision.Granted g' facts verdict route refused) tt) e (λ x. cc);
+  reached' = λ g rule s g' facts verdict route to at d e. other-course _ _ _ (course-reached g rule s (Decision.Granted g' facts verdict route None) (Decision.Reached to at) tt) e (λ x. cc);
+}) ds h c
 
 pub record AtReach (ds : List Decision) : Type 0 where
   pub g : ℕ
   pub g' : ℕ
   pub rule : Option ℕ
+  pub sought : Option Sought
   pub facts : Facts
   pub verdict : Verdict
   pub route : Option ℕ
-  pub is : ds ≡ Decision.Opened g rule None ∷ Decision.Granted g' facts verdict route None ∷ []
+  pub is : ds ≡ Decision.Opened g rule None ∷ behind_lookup sought (Decision.Granted g' facts verdict route None ∷ [])
 
-pub at-reach : (users : List User) (r : Record) (ds : List Decision) → HasDecided users r ds → r.cause ≡ None → IsCourse ds Course.Reach → AtReach ds
-at-reach users r [] h k c = absurd c
-at-reach users r (d ∷ []) h k c = absurd c
-at-reach users r (Decision.Opened g rule None ∷ Decision.Granted g' facts verdict route None ∷ []) h k c =
-    record { g = g; g' = g'; rule = rule; facts = facts; verdict = verdict; route = route; is = refl }
-at-reach users r (Decision.Opened g rule None ∷ Decision.Granted g' facts verdict route (Some j) ∷ []) h k c = caused r.cause k (h.stands refl)
-at-reach users r (d ∷ e ∷ []) h k c = absurd h
-at-reach users r (d ∷ e ∷ f ∷ ds) h k c = absurd c
+was-granted : (users : List User) (r : Record) (g : ℕ) (rule : Option ℕ) (s : Option Sought) (g' : ℕ) (facts : Facts) (verdict : Verdict) (route : Option ℕ) (refused : Option Cause) → Judged users r (name_sought s) facts refused → r.cause ≡ None
+    → AtReach (Decision.Opened g rule None ∷ behind_lookup s (Decision.Granted g' facts verdict route refused ∷ []))
+was-granted users r g rule s g' facts verdict route None d none = record { g = g; g' = g'; rule = rule; sought = s; facts = facts; verdict = verdict; route = route; is = refl }
+was-granted users r g rule s g' facts verdict route (Some k) d none = caused r.cause none (d.stands refl)
 
-pub at-relay : (users : List User) (r : Record) (ds : List Decision) → HasDecided users r ds → r.cause ≡ None → IsCourse ds Course.Relay → (at : Endpoint) × (reached_at ds ≡ Some at)
-at-relay users r [] h k c = absurd c
-at-relay users r (d ∷ []) h k c = absurd c
-at-relay users r (d ∷ e ∷ []) h k c = absurd c
-at-relay users r (Decision.Opened g rule None ∷ Decision.Granted g' facts verdict route None ∷ Decision.Reached to None ∷ []) h k c = caused r.cause k (h.failed refl)
-at-relay users r (Decision.Opened g rule None ∷ Decision.Granted g' facts verdict route None ∷ Decision.Reached to (Some at) ∷ []) h k c = (at, refl)
-at-relay users r (d ∷ e ∷ f ∷ ds) h k c = absurd h
+pub at-reach : (users : List User) (r : Record) (ds : List Decision) → HasDecided users r ds → r.cause ≡ None → course_of ds ≡ Course.Reach → AtReach ds
+at-reach users r ds h none c = decided-forms users r (λ ds. course_of ds ≡ Course.Reach → AtReach ds) (record {
+  nothing = λ fresh' e. absurd (cc);
+  opened' = λ g rule d e. absurd (cc);
+  looked' = λ g rule name found d e. absurd (cc);
+  granted' = λ g rule s g' facts verdict route refused d e. was-granted users r g rule s g' facts verdict route refused d none;
+  reached' = λ g rule s g' facts verdict route to at d e. other-course _ _ _ (course-reached g rule s (Decision.Granted g' facts verdict route None) (Decision.Reached to at) tt) e (λ x. cc);
+}) ds h c
+
+abbrev AtRelay : List Decision → Type 0
+AtRelay ds = (at : Endpoint) × (reached_at ds ≡ Some at)
+
+was-reached : (users : List User) (r : Record) (g : ℕ) (rule : Option ℕ) (s : Option Sought) (g' : ℕ) (facts : Facts) (verdict : Verdict) (route : Option ℕ) (to : Endpoint) (at : Option Endpoint) → Dialled users r (name_sought s) facts at → r.cause ≡ None
+    → AtRelay (Decision.Opened g rule None ∷ behind_lookup s (Decision.Granted g' facts verdict route None ∷ Decision.Reached to at ∷ []))
+was-reached users r g rule s g' facts verdict route to None d none = caused r.cause none (d.failed refl)
+was-reached users r g rule s g' facts verdict route to (Some at) d none =
+    (at, at-behind g rule s g' facts verdict route to (Some at))
+
+pub at-relay : (users : List User) (r : Record) (ds : List Decision) → HasDecided users r ds → r.cause ≡ None → course_of ds ≡ Course.Relay → (at : Endpoint) × (reached_at ds ≡ Some at)
+at-relay users r ds h none c = decided-forms users r (λ ds. course_of ds ≡ Course.Relay → AtRelay ds) (record {
+  nothing = λ fresh' e. absurd (cc);
+  opened' = λ g rule d e. absurd (cc);
+  looked' = λ g rule name found d e. absurd (cc);
+  granted' = λ g rule s g' facts verdict route refused d e. other-course _ _ _ (course-granted g rule s (Decision.Granted g' facts verdict route refused) tt) e (λ x. cc);
+  reached' = λ g rule s g' facts verdict route to at d e. was-reached users r g rule s g' facts verdict route to at d none;
+}) ds h c
 
 -- ---- how the phases' answers are those of a turn
 
@@ -106,6 +167,7 @@ over-desk told counts stands h marks s now net net' a next stood t = record {
   taken' = t.taken';
   dials = t.dials;
   lookups = t.lookups;
+  lookup_plan = t.lookup_plan;
   plan' = t.plan';
   outer' = t.outer';
   stops_c = t.stops_c;

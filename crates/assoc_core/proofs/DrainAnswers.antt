@@ -12,6 +12,7 @@ use Rattle.socks_machine.specs.declared.cause.Cause.{Cause}
 use Rattle.socks_machine.specs.declared.cause.StopBy.{StopBy}
 use Rattle.socks_machine.specs.declared.lines.CloseLine.{CloseLine}
 use Rattle.socks_machine.specs.declared.lines.Line.{Line}
+use Rattle.socks_machine.specs.declared.record.Decision.{Decision}
 use Rattle.socks_machine.specs.declared.record.Record.{Record}
 use Rattle.socks_machine.specs.declared.world.Object.{Object}
 use Rattle.socks_machine.specs.declared.world.Outer.{Outer}
@@ -31,13 +32,13 @@ use Rattle.assoc_core.specs.declared.carry.Give.{Give}
 use Rattle.assoc_core.specs.Carrying.{GivesPart, is_sound, is_full}
 use Rattle.assoc_core.specs.Closing.{Closed}
 use Rattle.assoc_core.specs.Draining.{SendsClient, SendsTarget}
-use Rattle.assoc_core.specs.Plain.{IsPlainRecord, HasDecided, Untargeted, owed_c, owed_t, plain_to_target, prelude_of}
+use Rattle.assoc_core.specs.Plain.{IsPlainRecord, HasDecided, Untargeted, owed_c, owed_t, plain_to_target, prelude_of, Sought, behind_lookup}
 use Rattle.assoc_core.specs.Stands.{Holds, HoldsTarget, Stands, EndsBehind, GivesFirst}
 use Rattle.assoc_core.specs.Turns.{context, Turns, left_of, IsFull, IsThereAnd, IsUnfailing, SameOutside, SameTarget}
 use Rattle.assoc_core.proofs.Drains.{drained, Drains, DrainFault, DrainTurn, drain-closes, drain-waits, drain-turns}
 use Rattle.assoc_core.proofs.LinksHeld.{holds-given, ends-given, first-given, outside-given}
 use Rattle.assoc_core.proofs.PassLaws.{full-of, unsound-of, nothing-of, sound-written}
-use Rattle.assoc_core.proofs.PlainRecords.{decided-forms}
+use Rattle.assoc_core.proofs.PlainRecords.{decided-forms, at-behind, unreached-behind, has-judged, has-dialled}
 use Rattle.assoc_core.proofs.RelayRecords.{asked-as, plain-tcp}
 use Rattle.assoc_core.proofs.RelaySums.{clash, sent-on, none-left, all-sent}
 
@@ -65,9 +66,19 @@ plain-target : (users : List User) (r : Record) (at : Endpoint) → IsPlainRecor
 plain-target users r at plain reaches = decided-forms users r (λ ds. reached_at ds ≡ Some at → has_target (record r { decisions = ds }) ≡ true) (record {
   nothing = λ fresh' k. absurd (cc);
   opened' = λ g rule d k. absurd (cc);
-  granted' = λ g rule g' facts verdict route refused d k. absurd (cc);
-  reached' = λ g rule g' facts verdict route to at' d k. ap (λ (z : Option Endpoint). target_by z None facts.command) k ∙ ap (λ (z : Command). target_by (Some at) None z) d.command;
+  looked' = λ g rule name found d k. absurd (cc);
+  granted' = λ g rule s g' facts verdict route refused d k. absurd (none-some at (sym (unreached-behind g rule s g' facts verdict route refused) ∙ k));
+  reached' = λ g rule s g' facts verdict route to at' d k. has-one g rule s (Decision.Granted g' facts verdict route None ∷ Decision.Reached to at' ∷ [])
+      (ap (λ (z : Option Endpoint). target_by z None facts.command) (sym (at-behind g rule s g' facts verdict route to at') ∙ k) ∙ ap (λ (z : Command). target_by (Some at) None z) d.command);
 }) r.decisions plain.decided reaches
+  where
+    none-some : (at : Endpoint) → None ≡ Some at → ⊥
+    none-some at e = cc
+
+    has-one : (g : ℕ) (rule : Option ℕ) (s : Option Sought) (ds : List Decision) → has_target (record r { decisions = Decision.Opened g rule None ∷ ds }) ≡ true
+        → has_target (record r { decisions = Decision.Opened g rule None ∷ behind_lookup s ds }) ≡ true
+    has-one g rule None ds h = h
+    has-one g rule (Some l) ds h = h
 
 -- what a turn in Closing sends to its target
 pub record DrainedTarget {L : Type 0} (told : L → Told) (net : NetTold) (old new : Record) (sent_c : List ℕ) (target target' : Option L) (give : Give) : Type 0 where
@@ -193,17 +204,26 @@ drained-plain {basis} old cause part_c rest_c part_t rest_t k = record {
   decided = decided-forms basis.users old (λ ds. (reached_at ds ≡ None → x.sent_t ≡ []) → HasDecided basis.users x ds) (record {
     nothing = λ fresh' f. absurd (none-some (ap (λ (z : Record). z.cause) fresh'));
     opened' = λ g rule d f. record { untargeted = still d.untargeted (f refl); talks = d.talks };
-    granted' = λ g rule g' facts verdict route refused d f.
-        record { untargeted = still d.untargeted (f refl); asked = asked-as basis.users old x refl d.asked; command = d.command; unended = d.unended; stands = d.stands };
-    reached' = λ g rule g' facts verdict route to at d f. record {
+    looked' = λ g rule name found d f.
+        record { untargeted = still d.untargeted (f refl); asked = asked-as basis.users old x refl d.asked; named = d.named; unended = d.unended; stands = d.stands };
+    granted' = λ g rule s g' facts verdict route refused d f. has-judged basis.users x g rule s g' facts verdict route refused (record {
+      untargeted = still d.untargeted (f (unreached-behind g rule s g' facts verdict route refused));
       asked = asked-as basis.users old x refl d.asked;
+      named = d.named;
       command = d.command;
-      unreached = λ e. still (d.unreached e) (f e);
+      unended = d.unended;
+      stands = d.stands;
+    });
+    reached' = λ g rule s g' facts verdict route to at d f. has-dialled basis.users x g rule s g' facts verdict route to at (record {
+      asked = asked-as basis.users old x refl d.asked;
+      named = d.named;
+      command = d.command;
+      unreached = λ e. still (d.unreached e) (f (at-behind g rule s g' facts verdict route to at ∙ e));
       failed = d.failed;
       apart = d.apart;
       shut_c = λ e. ((d.shut_c e).0, all-sent _ rest_c _ k.owes_c (none-left old.sent_c part_c rest_c _ k.owes_c (d.shut_c e).1));
       shut_t = λ e. ((d.shut_t e).0, all-sent _ rest_t _ k.owes_t (none-left old.sent_t part_t rest_t _ k.owes_t (d.shut_t e).1));
-    };
+    });
   }) old.decisions k.plain.decided (λ e. first-nothing (old.sent_t ++ part_t) rest_t (k.owes_t ∙ ap (plain_to_target (prelude_of old) old.c) e));
   sent_c = (rest_c, k.owes_c);
   sent_t = (rest_t, k.owes_t);

@@ -36,7 +36,7 @@ use Rattle.assoc_core.proofs.PlainRecords.{decided-forms, closing-phase, plain-o
 use Rattle.assoc_core.proofs.Rests.{rests-with}
 use Rattle.assoc_core.proofs.RelayCloses.{closes-with}
 use Rattle.assoc_core.proofs.RelayEnds.{idle-c, idle-t, both, drop-sent, something}
-use Rattle.assoc_core.proofs.RelayTurns.{IsDesk, desk-dials, desk-plan, desk-outer}
+use Rattle.assoc_core.proofs.RelayTurns.{IsDesk, desk-dials, desk-lookups, desk-plan, desk-outer}
 
 -- what such a turn does
 abbrev pub drain_acts : List ℕ → List ℕ → Bool → Bool → Option Object → Bool → Outer → Acts
@@ -86,8 +86,9 @@ drain-opened : (users : List User) (old : Record) (cause : Cause) → IsPlainRec
 drain-opened users old cause plain caused = decided-forms users old (λ ds. is_opened ds ≡ true) (record {
   nothing = λ fresh'. absurd (none-some (ap (λ (z : Record). z.cause) fresh'));
   opened' = λ g rule d. refl;
-  granted' = λ g rule g' facts verdict route refused d. refl;
-  reached' = λ g rule g' facts verdict route to at d. refl;
+  looked' = λ g rule name found d. refl;
+  granted' = λ g rule s g' facts verdict route refused d. refl;
+  reached' = λ g rule s g' facts verdict route to at d. refl;
 }) old.decisions plain.decided
   where
     none-some : old.cause ≡ None → ⊥
@@ -255,7 +256,8 @@ drain-turns {L} told counts stands users pubs generation config cap h marks now 
   behind = a.state;
   taken' = λ worker. refl;
   dials = desk-dials net.dials _ outer desk;
-  lookups = record { lookups = refl; plan = refl };
+  lookups = desk-lookups net.lookups _ outer desk;
+  lookup_plan = refl;
   plan' = desk-plan net outer _ desk;
   outer' = desk-outer net _ outer desk;
   stops_c = λ worker. StopsReading.unread (record { behind = a.state; taken' = refl; unread' = ap (reads_client (socks users pubs) (links false false) (links full_c full_t) a.state) closing-a });

@@ -55,7 +55,7 @@ pub talking-of : (users : List User) (r : Record) (ds : List Decision) (g : ℕ)
 talking-of users r ds g rule is h = subst (HasDecided users r) is h
 
 abbrev pub hearing_of : {L : Type 0} (told : L → Told) (counts : L → Counts) (users : List User) (pubs : List Config) (generation : ℕ) (config : Config) (most : ℕ) (h : List Line) (marks : List StopBy)
-    (a b : Assoc L) (heard : Heard) → HasHeard told counts (socks users pubs) generation config a b heard → Hearing
+    (a b : Assoc L) (heard : Heard) → HasHeard told counts (socks users pubs) generation config a b None heard → Hearing
 hearing_of told counts users pubs generation config most h marks a b heard k = record {
   users = users;
   pubs = pubs;
@@ -82,8 +82,8 @@ hearing_of told counts users pubs generation config most h marks a b heard k = r
       (subst (λ (o : Option Cause). IsPrefix (a.state).sent_c (owed_c (let r = a.state in record r { cause = o }))) k.uncaused ((k.stands).plain).sent_c);
 }
 
-before-is : {L : Type 0} (told : L → Told) (counts : L → Counts) (users : List User) (pubs : List Config) (generation : ℕ) (config : Config) (most : ℕ) (h : List Line) (marks : List StopBy)
-    (a b : Assoc L) (heard : Heard) (k : HasHeard told counts (socks users pubs) generation config a b heard) → a.state ≡ before (hearing_of told counts users pubs generation config most h marks a b heard k)
+pub before-is : {L : Type 0} (told : L → Told) (counts : L → Counts) (users : List User) (pubs : List Config) (generation : ℕ) (config : Config) (most : ℕ) (h : List Line) (marks : List StopBy)
+    (a b : Assoc L) (heard : Heard) (k : HasHeard told counts (socks users pubs) generation config a b None heard) → a.state ≡ before (hearing_of told counts users pubs generation config most h marks a b heard k)
 before-is told counts users pubs generation config most h marks a b heard k = λ i. record {
   number = (a.state).number;
   peer = (a.state).peer;
@@ -110,23 +110,23 @@ before-is told counts users pubs generation config most h marks a b heard k = λ
     talking = talking-of users a.state (a.state).decisions k.generation' k.rule k.opened' ((k.stands).plain).decided
 
 pub behind-is : {L : Type 0} (told : L → Told) (counts : L → Counts) (users : List User) (pubs : List Config) (generation : ℕ) (config : Config) (most : ℕ) (h : List Line) (marks : List StopBy)
-    (a b : Assoc L) (how : Heard) (k : HasHeard told counts (socks users pubs) generation config a b how) → b.state ≡ heard (hearing_of told counts users pubs generation config most h marks a b how k)
+    (a b : Assoc L) (how : Heard) (k : HasHeard told counts (socks users pubs) generation config a b None how) → b.state ≡ heard (hearing_of told counts users pubs generation config most h marks a b how k)
 behind-is told counts users pubs generation config most h marks a b how k =
     k.state' ∙ ap (with_client_bytes generation config.methods (k.hears).bytes) (before-is told counts users pubs generation config most h marks a b how k)
 
 -- what the whole input is
 pub heard-as : {L : Type 0} (told : L → Told) (counts : L → Counts) (users : List User) (pubs : List Config) (generation : ℕ) (config : Config) (most : ℕ) (h : List Line) (marks : List StopBy)
-    (a b : Assoc L) (how : Heard) (k : HasHeard told counts (socks users pubs) generation config a b how) → HeardAs (split_heard (hearing_of told counts users pubs generation config most h marks a b how k)) how
+    (a b : Assoc L) (how : Heard) (k : HasHeard told counts (socks users pubs) generation config a b None how) → HeardAs (split_heard (hearing_of told counts users pubs generation config most h marks a b how k)) how
 heard-as told counts users pubs generation config most h marks a b how k =
     subst (λ (r : Record). HeardAs (split_in users r) how) (behind-is told counts users pubs generation config most h marks a b how k) k.heard'
 
 pub stands-before : {L : Type 0} (told : L → Told) (counts : L → Counts) (users : List User) (pubs : List Config) (generation : ℕ) (config : Config) (most : ℕ) (h : List Line) (marks : List StopBy)
-    (a b : Assoc L) (how : Heard) (k : HasHeard told counts (socks users pubs) generation config a b how) → Stands told (socks users pubs) (with_state a (before (hearing_of told counts users pubs generation config most h marks a b how k)))
+    (a b : Assoc L) (how : Heard) (k : HasHeard told counts (socks users pubs) generation config a b None how) → Stands told (socks users pubs) (with_state a (before (hearing_of told counts users pubs generation config most h marks a b how k)))
 stands-before told counts users pubs generation config most h marks a b how k =
     subst (λ (r : Record). Stands told (socks users pubs) (with_state a r)) (before-is told counts users pubs generation config most h marks a b how k) k.stands
 
 pub turns-before : {L : Type 0} (told : L → Told) (counts : L → Counts) (stands : List Line → List StopBy → Type 0) (users : List User) (pubs : List Config) (generation : ℕ) (config : Config) (most : ℕ) (h : List Line) (marks : List StopBy)
-    (now : ℕ) (net : NetTold) (a b : Assoc L) (how : Heard) (next : Next L) (k : HasHeard told counts (socks users pubs) generation config a b how) → (a.state).since ≡ now
+    (now : ℕ) (net : NetTold) (a b : Assoc L) (how : Heard) (next : Next L) (k : HasHeard told counts (socks users pubs) generation config a b None how) → (a.state).since ≡ now
     → (let t = hearing_of told counts users pubs generation config most h marks a b how k in Turns told counts stands (context_of t) (t.party).since net net (with_state a (before t)) next)
     → Turns told counts stands (context_of (hearing_of told counts users pubs generation config most h marks a b how k)) now net net a next
 turns-before told counts stands users pubs generation config most h marks now net a b how next k since v =
@@ -188,7 +188,7 @@ left-to-send t ends cause fits = ((first-sent t (Some cause) fits).0, (first-sen
 -- ---- the client has ended
 
 pub hangs-up : {L : Type 0} (told : L → Told) (counts : L → Counts) (stands : List Line → List StopBy → Type 0) (users : List User) (pubs : List Config) (generation : ℕ) (config : Config) (most : ℕ) (h : List Line) (marks : List StopBy)
-    (now : ℕ) (net : NetTold) (a b : Assoc L) (e : Ended L) (at : ℕ) → HasHeard told counts (socks users pubs) generation config a b Heard.End → (a.state).since ≡ now → at ≡ length (b.state).c
+    (now : ℕ) (net : NetTold) (a b : Assoc L) (e : Ended L) (at : ℕ) → HasHeard told counts (socks users pubs) generation config a b None Heard.End → (a.state).since ≡ now → at ≡ length (b.state).c
     → (is_udp b.state ≡ false → Closed stands h marks (Cause.ClientGone at) (with_state b (let r = b.state in record r { end_c = true })) e)
     → Turns told counts stands (context users pubs generation config most h marks) now net net a (Next.Done e)
 hangs-up {L = L} told counts stands users pubs generation config most h marks now net a b e at k since at' closed =
@@ -250,7 +250,7 @@ pub owes-fault : (t : Hearing) (sent : List ℕ) → Fits t None → owed_to_cli
 owes-fault t sent fits = owes-caused t sent false (Some Cause.ClientFault) fits ∙ ap (λ z. opening_owed (t.c ++ t.x) (answered t) None ++ z) (silent-fault (version_of (t.c ++ t.x)) (refused_at (answered t) (t.c ++ t.x) Cause.ClientFault))
 
 pub reads-fail : {L : Type 0} (told : L → Told) (counts : L → Counts) (stands : List Line → List StopBy → Type 0) (users : List User) (pubs : List Config) (generation : ℕ) (config : Config) (most : ℕ) (h : List Line) (marks : List StopBy)
-    (now : ℕ) (net : NetTold) (a b : Assoc L) (e : Ended L) → HasHeard told counts (socks users pubs) generation config a b Heard.Failed → (a.state).since ≡ now
+    (now : ℕ) (net : NetTold) (a b : Assoc L) (e : Ended L) → HasHeard told counts (socks users pubs) generation config a b None Heard.Failed → (a.state).since ≡ now
     → (is_udp b.state ≡ false → Closed stands h marks Cause.ClientFault b e)
     → Turns told counts stands (context users pubs generation config most h marks) now net net a (Next.Done e)
 reads-fail told counts stands users pubs generation config most h marks now net a b e k since closed =

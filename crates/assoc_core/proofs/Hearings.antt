@@ -113,7 +113,7 @@ pub heard-of : {L : Type 0} (told : L → Told) (counts : L → Counts) (users :
     → (a.state).cause ≡ None → (a.state).decisions ≡ Decision.Opened generation' rule None ∷ []
     → Hears (told a.client) (told client) (counts a.client) (counts client) (a.state).c c heard
     → method ≡ method_after (methods_by (a.state).chosen config.methods) None c → HeardAs (split users method c) heard → chosen ≡ chosen_as generation (a.state).chosen method
-    → HasHeard told counts (socks users pubs) generation config a (record { state = (let r = a.state in record r { c = c; chosen = chosen }); client = client; target = a.target }) heard
+    → HasHeard told counts (socks users pubs) generation config a (record { state = (let r = a.state in record r { c = c; chosen = chosen }); client = client; target = a.target }) None heard
 heard-of told counts users pubs generation config a client c method chosen heard generation' rule standing tells published plain uncaused opens hears method' heard' chosen' = record {
   stands = standing;
   served = tells;
@@ -124,6 +124,7 @@ heard-of told counts users pubs generation config a client c method chosen heard
   opened' = opens;
   uncaused = uncaused;
   hears = hears;
+  quiet = λ e. absurd (cc);
   state' = λ i. let r = a.state in record r { c = hears.after' i; chosen = chosen-now i };
   heard' = subst (λ (o : Option Chosen). HeardAs (split users (option_map (λ c. c.method) o) c) heard) (sym chosen-then) (subst (λ (m : Option ℕ). HeardAs (split users m c) heard) method-now heard');
   target' = refl;

@@ -28,10 +28,7 @@ served-none : (users : List User) (c : List ℕ) → is_served_input users c ≡
 served-none users c h = left (is_served_split (split users (Some 0) c)) _ h
 
 served-login : (users : List User) (c : List ℕ) → is_served_input users c ≡ true → is_served_split (split users (Some 2) c) ≡ true
-served-login users c h = left (is_served_split (split users (Some 2) c)) _ (right (is_served_split (split users (Some 0) c)) _ h)
-
-pub served-length : (users : List User) (c : List ℕ) → is_served_input users c ≡ true → nat_le (length c) 65535 ≡ true
-served-length users c h = right (is_served_split (split users (Some 2) c)) _ (right (is_served_split (split users (Some 0) c)) _ h)
+served-login users c h = right (is_served_split (split users (Some 0) c)) _ h
 
 -- behind a greeting another method than 00 and 02 agrees upon nothing
 greeted-served : (users : List User) (method : ℕ) (x : Read (List ℕ)) → is_served_split (split_greeted users (Some 0) x) ≡ true → is_served_split (split_greeted users (Some 2) x) ≡ true

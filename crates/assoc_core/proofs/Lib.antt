@@ -1,5 +1,7 @@
 pub mod Accepting
 pub mod Answering
+pub mod AskTurns
+pub mod Asking
 pub mod Carryings
 pub mod DrainAnswers
 pub mod Drains
@@ -7,6 +9,7 @@ pub mod GrantTurns
 pub mod HeardTurns
 pub mod Hearings
 pub mod Later
+pub mod Judging
 pub mod LinksHeld
 pub mod PassLaws
 pub mod Inputs
@@ -24,6 +27,7 @@ pub mod RelayEnds
 pub mod RelayRecords
 pub mod RelaySums
 pub mod RelayTurns
+pub mod SeekTurns
 pub mod Sendings
 pub mod StandsLaws
 pub mod TalkCloses

@@ -30,7 +30,7 @@ prelude-within r = ends-within (option_map (λ c. c.method) r.chosen) r.c
 
 -- ---- more bytes behind it
 
-pub asked-extends : (users : List User) (r : Record) (x : List ℕ) → HasAsked users r → HasAsked users (record r { c = r.c ++ x })
+abbrev pub asked-extends : (users : List User) (r : Record) (x : List ℕ) → HasAsked users r → HasAsked users (record r { c = r.c ++ x })
 asked-extends users r x h = record {
   request = h.request;
   len = h.len;

@@ -5,7 +5,7 @@ use Rattle.addr_pattern.specs.declared.endpoint.Endpoint.{Endpoint}
 use Rattle.conf_model.specs.declared.config.Config.{Config}
 use Rattle.conf_model.specs.declared.user.User.{User}
 use Rattle.net_ends.specs.Counts.{Counts, Rose}
-use Rattle.net_ends.specs.Nets.{DialOutcome, NetTold, Plan, SameLookups, dialled}
+use Rattle.net_ends.specs.Nets.{DialOutcome, NetTold, Plan, SameLookups, dialled, NetCounts}
 use Rattle.net_ends.specs.Told.{Told}
 use Rattle.rule_list.specs.declared.facts.Facts.{Facts}
 use Rattle.rule_list.specs.declared.verdict.Verdict.{Verdict}
@@ -22,14 +22,18 @@ use Rattle.socks_machine.specs.Socks.{socks}
 use Rattle.assoc_core.specs.declared.assoc.Assoc.{Assoc}
 use Rattle.assoc_core.specs.declared.assoc.Next.{Next}
 use Rattle.assoc_core.specs.declared.send.Sent.{Sent}
-use Rattle.assoc_core.specs.Plain.{owed_c, prelude_of}
-use Rattle.assoc_core.specs.Reaching.{HasDialled, HasGreeted, IsNewLink, SameDesk, at_of, cause_of}
-use Rattle.assoc_core.specs.Sending.{Sends, SendEnds}
+use Rattle.assoc_core.specs.Plain.{Sought, behind_lookup, owed_c, prelude_of}
+use Rattle.assoc_core.proofs.PlainRecords.{granted-behind, unreached-behind}
+use Rattle.connect_core.specs.declared.dial.Reached.{Reached}
+use Rattle.connect_core.specs.Reaching.{Reaches as DialReaches, cause_of}
+use Rattle.assoc_core.specs.Reaching.{HasDialled, HasGreeted, IsNewLink, SameDesk, at_of}
+use Rattle.assoc_core.specs.Sending.{Sends, SendEnds, WritesOn, is_full, is_failed, with_failure}
 use Rattle.assoc_core.specs.Stands.{Stands, Holds, HoldsTarget, EndsBehind, GivesFirst}
 use Rattle.assoc_core.specs.Turns.{Turns, SameOutside, SameTarget, IsUnfailing, IsFull, IsThereAnd, context}
 use Rattle.assoc_core.proofs.Answering.{all-owed, with_link}
-use Rattle.assoc_core.proofs.GrantTurns.{last-set, GrantEnds, fault_of, with_failure}
-use Rattle.assoc_core.proofs.Reaching.{Dialling, behind, before, due_t, with_object}
+use Rattle.assoc_core.proofs.AskTurns.{AskEnds, ask-ends, fault_of, no-fault, has-failed}
+use Rattle.assoc_core.proofs.GrantTurns.{last-set}
+use Rattle.assoc_core.proofs.Reaching.{Dialling, at-behind, reached_behind, behind, before, due_t, with_object}
 use Rattle.assoc_core.proofs.ReachTurns.{judged-in, Reaches, FailedWrite, dialling_of, before-is, behind-is, turns-reached, due_c, due-as, first-due, told_taken, holds-new, target-none}
 use Rattle.assoc_core.proofs.Sendings.{more-nil}
 use Rattle.assoc_core.proofs.StandsLaws.{same-target}
@@ -53,7 +57,7 @@ turns-dialled told counts users pubs generation config most h marks net net' now
 
 -- ---- the client is refused
 
-at-none : (o : DialOutcome) (cause : Cause) → cause_of o ≡ Some cause → at_of o ≡ None
+pub at-none : (o : DialOutcome) (cause : Cause) → cause_of o ≡ Some cause → at_of o ≡ None
 at-none (DialOutcome.CameUp local) cause e = absurd (cc)
 at-none DialOutcome.WasRefused cause e = refl
 at-none DialOutcome.NoHost cause e = refl
@@ -68,25 +72,19 @@ failed-as : (d : Dialling) (o : DialOutcome) (rest_c rest_t : List ℕ) (failed 
 failed-as d o rest_c rest_t true h = (refl, h refl)
 failed-as d o rest_c rest_t false h = refl
 
-no-fault : (failed : Bool) → (failed ≡ true → ⊥) → (fault_of failed ≡ None) × (failed ≡ false)
-no-fault true h = absurd (h refl)
-no-fault false h = (refl, refl)
-
-has-failed : (failed : Bool) → fault_of failed ≡ Some Object.Client → failed ≡ true
-has-failed true h = refl
-has-failed false h = cc
+-- no target was reached before
+unreached-before : {L : Type 0} (told : L → Told) (basis : Basis) (net net' : NetTold) (now : ℕ) (a b : Assoc L) (o : DialOutcome) → HasDialled told basis net net' now a b o → reached_at (a.state).decisions ≡ None
+unreached-before told basis net net' now a b o k = ap reached_at k.granted' ∙ unreached-behind k.g k.rule k.sought k.g' k.facts k.verdict k.route None
 
 pub refuses-turn : {L : Type 0} (told : L → Told) (counts : L → Counts) (users : List User) (pubs : List Config) (generation : ℕ) (config : Config) (most : ℕ) (h : List Line) (marks : List StopBy)
-    (net net' : NetTold) (now : ℕ) (a b : Assoc L) (o : DialOutcome) (cause : Cause) (first : Option Cause) (client : L) (s : Record) (last : Option Cause) (full failed : Bool) (outcome : Sent)
+    (net net' : NetTold) (now : ℕ) (a b : Assoc L) (o : DialOutcome) (cause : Cause) (first : Option Cause) (next : Next L)
     → HasDialled told (socks users pubs) net net' now a b o → cause_of o ≡ Some cause
     → first ≡ first_cause (Some cause) (b.state).cause
-    → s ≡ (let r = b.state in record r { cause = first; sent_c = s.sent_c })
-    → Sends (told b.client) (told client) (counts b.client) (counts client) (b.state).sent_c s.sent_c (drop (length (b.state).sent_c) (owed_c (let r = b.state in record r { cause = first }))) outcome
-    → ((rest : List ℕ) → SendEnds (told client) (counts b.client) (counts client) rest outcome → GrantEnds (told client) (counts b.client) (counts client) rest full failed)
-    → last ≡ with_failure failed s.cause
-    → Turns told counts (SameDesk h marks) (context users pubs generation config most h marks) now net net' a (Next.Again (with_link b (record s { cause = last }) client))
-refuses-turn {L = L} told counts users pubs generation config most h marks net net' now a b o cause first client s last full failed outcome k why first' state' sends by last' =
-    turns-dialled told counts users pubs generation config most h marks net net' now a b z o k sends'.bytes sends'.rest [] full false (fault_of failed) failed (record {
+    → WritesOn told counts (record { state = (let r = b.state in record r { cause = first }); client = b.client; target = b.target }) next
+    → Turns told counts (SameDesk h marks) (context users pubs generation config most h marks) now net net' a next
+refuses-turn {L = L} told counts users pubs generation config most h marks net net' now a b o cause first next k why first' w =
+    subst (λ (n : Next L). Turns told counts (SameDesk h marks) (context users pubs generation config most h marks) now net net' a n) (sym w.next')
+    (turns-dialled told counts users pubs generation config most h marks net net' now a b z o k sends'.bytes sends'.rest [] full false (fault_of failed) failed (record {
       state' = is ∙ (λ i. behind d (at_of o) (d.sent ++ sends'.bytes) (sym none-t i) (with_object (fault_of failed) (cause_of o)));
       writes = record {
         sent_c' = refl;
@@ -100,19 +98,25 @@ refuses-turn {L = L} told counts users pubs generation config most h marks net n
       planned = k.planned;
       kept = k.kept;
       told' = sends'.told' ∙ ap (λ (l : L). told_taken (told l) sends'.bytes) k.client';
-      target' = subst (λ (w : Option L). HoldsTarget told z.state w) (sym (k.target' ∙ no-target)) (subst (λ (r : Record). HoldsTarget told r None) (sym is) (unreached, refl, refl, refl));
+      target' = subst (λ (w : Option L). HoldsTarget told z.state w) (sym (k.target' ∙ no-target)) (subst (λ (r : Record). HoldsTarget told r None) (sym is) (at-behind d (at_of o) ∙ unreached, refl, refl, refl));
       same_target = subst (λ (w : Option L). SameTarget told net a.target w) (sym k.target') (same-target told net a.target);
-      fills_c = λ e. ((ends.full' e).0, (ends.full' e).1, subst (λ (l : L). Rose (counts l).idle_writes (counts client).idle_writes) k.client' (ends.full' e).2);
+      fills_c = λ e. ((ends.full' e).0, (ends.full' e).1, subst (λ (l : L). Rose (counts l).idle_writes (counts w.client).idle_writes) k.client' (ends.full' e).2);
       fills_t = λ e. absurd (cc);
-      fails_c = λ e. subst (λ (l : L). Rose (counts l).faults (counts client).faults) k.client' (ends.failed' (has-failed failed e)).2;
+      fails_c = λ e. subst (λ (l : L). Rose (counts l).faults (counts w.client).faults) k.client' (ends.failed' (has-failed failed e)).2;
       unfailing = λ e1 e2. no-fault failed (λ e3. clash e1 (ends.failed' e3).1);
-    })
+    }))
   where
+    full : Bool
+    full = is_full w.outcome
+
+    failed : Bool
+    failed = is_failed w.outcome
+
     d : Dialling
     d = dialling_of told users pubs generation config most h marks net net' now a b o k
 
     z : Assoc L
-    z = with_link b (record s { cause = last }) client
+    z = record { state = (let r = b.state in record r { sent_c = w.sent; cause = with_failure failed first }); client = w.client; target = b.target }
 
     unreached : at_of o ≡ None
     unreached = at-none o cause why
@@ -126,26 +130,23 @@ refuses-turn {L = L} told counts users pubs generation config most h marks net n
     g-is : (let r = b.state in record r { cause = first }) ≡ behind d (at_of o) d.sent [] (cause_of o)
     g-is = λ i. let r : Record = b-is i in record r { cause = first-is i }
 
-    sends' : Sends (told b.client) (told client) (counts b.client) (counts client) d.sent s.sent_c (drop (length d.sent) (owed_c (behind d (at_of o) d.sent [] (cause_of o)))) outcome
-    sends' = subst (λ (r : Record). Sends (told b.client) (told client) (counts b.client) (counts client) r.sent_c s.sent_c (drop (length r.sent_c) (owed_c r)) outcome) g-is sends
+    sends' : Sends (told b.client) (told w.client) (counts b.client) (counts w.client) d.sent w.sent (drop (length d.sent) (owed_c (behind d (at_of o) d.sent [] (cause_of o)))) w.outcome
+    sends' = subst (λ (r : Record). Sends (told b.client) (told w.client) (counts b.client) (counts w.client) r.sent_c w.sent (drop (length r.sent_c) (owed_c r)) w.outcome) g-is w.sends
 
-    ends : GrantEnds (told client) (counts b.client) (counts client) sends'.rest full failed
-    ends = by sends'.rest sends'.ends
-
-    s-is : s ≡ behind d (at_of o) (d.sent ++ sends'.bytes) [] (cause_of o)
-    s-is = state' ∙ (λ i. let r : Record = g-is i in record r { sent_c = sends'.after' i })
+    ends : AskEnds (told w.client) (counts b.client) (counts w.client) sends'.rest full failed
+    ends = ask-ends (told w.client) (counts b.client) (counts w.client) sends'.rest w.outcome sends'.ends
 
     is : z.state ≡ behind d (at_of o) (d.sent ++ sends'.bytes) [] (with_object (fault_of failed) (cause_of o))
-    is = (λ i. record s { cause = (last' ∙ as-object failed s.cause) i }) ∙ ap (λ (r : Record). let w : Record = record r { cause = with_object (fault_of failed) r.cause } in w) s-is
+    is = (λ i. let r : Record = g-is i in record r { sent_c = sends'.after' i; cause = as-object failed r.cause i })
 
     none-t : (z.state).sent_t ≡ []
     none-t = ap (λ (r : Record). r.sent_t) is
 
     no-target : a.target ≡ None
-    no-target = target-none told a.state a.target (ap reached_at k.granted') (k.stands).target
+    no-target = target-none told a.state a.target (unreached-before told (socks users pubs) net net' now a b o k) (k.stands).target
 
-    clash : (told a.client).unfailing ≡ true → (told client).unfailing ≡ false → ⊥
-    clash e1 e2 = let e3 : (told client).unfailing ≡ (told a.client).unfailing = ap (λ (w : Told). w.unfailing) sends'.told' ∙ ap (λ (l : L). (told l).unfailing) k.client' in cc
+    clash : (told a.client).unfailing ≡ true → (told w.client).unfailing ≡ false → ⊥
+    clash e1 e2 = let e3 : (told w.client).unfailing ≡ (told a.client).unfailing = ap (λ (w : Told). w.unfailing) sends'.told' ∙ ap (λ (l : L). (told l).unfailing) k.client' in cc
 
 -- ---- the target is greeted
 
@@ -186,8 +187,8 @@ greets-turn {L = L} told counts users pubs generation config most h marks net ne
       kept = k.kept;
       told' = w.told' ∙ ap (λ (l : L). told_taken (told l) y_c) k.client';
       target' = subst (λ (t : Option L). HoldsTarget told z.state t) (sym w.target') (subst (λ (r : Record). HoldsTarget told r (Some link)) (sym is)
-          (subst (λ (t : Told). ((at : Endpoint) × (Some local ≡ Some at)) × Holds t [] (z.state).sent_t false false × EndsBehind t × GivesFirst t) (sym w.link')
-          ((local, refl), (holds-new (told new) (z.state).sent_t v.fresh).0, (holds-new (told new) (z.state).sent_t v.fresh).1, (holds-new (told new) (z.state).sent_t v.fresh).2)));
+          (subst (λ (t : Told). ((at : Endpoint) × (reached_at (reached_behind d (Some local)) ≡ Some at)) × Holds t [] (z.state).sent_t false false × EndsBehind t × GivesFirst t) (sym w.link')
+          ((local, at-behind d (Some local)), (holds-new (told new) (z.state).sent_t v.fresh).0, (holds-new (told new) (z.state).sent_t v.fresh).1, (holds-new (told new) (z.state).sent_t v.fresh).2)));
       same_target = subst (λ (t : Option L). SameTarget told net a.target t) (sym w.target') (subst (λ (t : Option L). SameTarget told net t (Some link)) (sym no-target) same-link);
       fills_c = λ e. ((w.fills_c e).0, (w.fills_c e).1, subst (λ (l : L). Rose (counts l).idle_writes (counts z.client).idle_writes) k.client' (w.fills_c e).2);
       fills_t = λ e. ((w.fills_t e).0, subst (λ (t : Option L). IsThereAnd t (λ l. IsFull (told l))) (sym w.target') (w.fills_t e).1);
@@ -208,7 +209,7 @@ greets-turn {L = L} told counts users pubs generation config most h marks net ne
     is = w.state' ∙ ap (λ (r : Record). let x : Record = record r { sent_c = r.sent_c ++ y_c; sent_t = (z.state).sent_t; cause = with_object fault r.cause } in x) b-is
 
     no-target : a.target ≡ None
-    no-target = target-none told a.state a.target (ap reached_at k.granted') (k.stands).target
+    no-target = target-none told a.state a.target (unreached-before told (socks users pubs) net net' now a b o k) (k.stands).target
 
     same-link : (plan : Plan) → net.plan ≡ Some plan → SameOutside plan.link (told link)
     same-link plan e = subst (λ (t : Told). SameOutside plan.link t) (sym w.link')
@@ -352,14 +353,16 @@ if-ok-more (Err e) P Q f h = h
 
 -- ---- the dial
 
-granted-facts : (ds : List Decision) (to : Endpoint) (g : ℕ) (rule : Option ℕ) (g' : ℕ) (facts : Facts) (verdict : Verdict) (route : Option ℕ)
-    → Some to ≡ option_map (λ x. x.facts.to) (granted ds) → ds ≡ Decision.Opened g rule None ∷ Decision.Granted g' facts verdict route None ∷ [] → to ≡ facts.to
-granted-facts ds to g rule g' facts verdict route e is = let k : Some to ≡ Some facts.to = e ∙ ap (λ (z : List Decision). option_map (λ x. x.facts.to) (granted z)) is in cc
+granted-facts : (ds : List Decision) (to : Endpoint) (g : ℕ) (rule : Option ℕ) (s : Option Sought) (g' : ℕ) (facts : Facts) (verdict : Verdict) (route : Option ℕ)
+    → Some to ≡ option_map (λ x. x.facts.to) (granted ds) → ds ≡ Decision.Opened g rule None ∷ behind_lookup s (Decision.Granted g' facts verdict route None ∷ []) → to ≡ facts.to
+granted-facts ds to g rule s g' facts verdict route e is =
+    let k : Some to ≡ Some facts.to = e ∙ (ap (λ (z : List Decision). option_map (λ x. x.facts.to) (granted z)) is ∙ ap (option_map (λ x. x.facts.to)) (granted-behind s (Decision.Granted g' facts verdict route None ∷ []))) in cc
 
 -- behind a grant there is a destination
-pub granted-some : (ds : List Decision) (g : ℕ) (rule : Option ℕ) (g' : ℕ) (facts : Facts) (verdict : Verdict) (route : Option ℕ) (to : Option Endpoint)
-    → to ≡ option_map (λ x. x.facts.to) (granted ds) → to ≡ None → ds ≡ Decision.Opened g rule None ∷ Decision.Granted g' facts verdict route None ∷ [] → ⊥
-granted-some ds g rule g' facts verdict route to e none is = let k : None ≡ Some facts.to = sym none ∙ (e ∙ ap (λ (z : List Decision). option_map (λ x. x.facts.to) (granted z)) is) in cc
+pub granted-some : (ds : List Decision) (g : ℕ) (rule : Option ℕ) (s : Option Sought) (g' : ℕ) (facts : Facts) (verdict : Verdict) (route : Option ℕ) (to : Option Endpoint)
+    → to ≡ option_map (λ x. x.facts.to) (granted ds) → to ≡ None → ds ≡ Decision.Opened g rule None ∷ behind_lookup s (Decision.Granted g' facts verdict route None ∷ []) → ⊥
+granted-some ds g rule s g' facts verdict route to e none is =
+    let k : None ≡ Some facts.to = sym none ∙ (e ∙ (ap (λ (z : List Decision). option_map (λ x. x.facts.to) (granted z)) is ∙ ap (option_map (λ x. x.facts.to)) (granted-behind s (Decision.Granted g' facts verdict route None ∷ [])))) in cc
 
 -- what the code knows of a dial
 pub record Dials {L : Type 0} (told : L → Told) (net net' : NetTold) (now : ℕ) (a : Assoc L) (to : Endpoint) (pushed : List Decision) (outcome : DialOutcome) : Type 0 where
@@ -370,14 +373,28 @@ pub record Dials {L : Type 0} (told : L → Told) (net net' : NetTold) (now : �
   pub planned : (plan : Plan) → net.plan ≡ Some plan → outcome ≡ plan.outcome
   pub kept : at_of outcome ≡ None → net'.plan ≡ net.plan
 
-pub dialled-down : {L : Type 0} (told : L → Told) (basis : Basis) (net net' : NetTold) (now : ℕ) (a : Assoc L) (to : Endpoint) (pushed : List Decision) (o : DialOutcome) (g g' : ℕ) (rule : Option ℕ) (facts : Facts) (verdict : Verdict) (route : Option ℕ)
+-- a dial that came up
+pub up-of : {L : Type 0} (told : L → Told) (net net' : NetTold) (was is : NetCounts) (now : ℕ) (a : Assoc L) (to : Endpoint) (link : L) (local : Endpoint) (pushed : List Decision)
+    → Some to ≡ option_map (λ x. x.facts.to) (granted (a.state).decisions) → pushed ≡ (a.state).decisions ++ Decision.Reached to None ∷ []
+    → DialReaches told net net' was is to (Reached.Up link local) → SameLookups net net' → Dials told net net' now a to pushed (DialOutcome.CameUp local)
+up-of told net net' was is now a to link local pushed to' pushed' dial lookups = record {
+  to' = to';
+  pushed' = pushed';
+  dials = dial.dials ∙ ap (λ (o : DialOutcome). dialled net.dials (record { to = to; outcome = o })) dial.answer;
+  lookups = lookups;
+  planned = λ plan e. sym dial.answer ∙ dial.planned plan e;
+  kept = λ e. absurd (some-clash local e);
+}
+
+pub dialled-down : {L : Type 0} (told : L → Told) (basis : Basis) (net net' : NetTold) (now : ℕ) (a : Assoc L) (to : Endpoint) (pushed : List Decision) (o : DialOutcome) (g g' : ℕ) (rule : Option ℕ) (s : Option Sought) (facts : Facts) (verdict : Verdict) (route : Option ℕ)
     → Dials told net net' now a to pushed o → at_of o ≡ None → Stands told basis a → (a.state).since ≡ now → (a.state).cause ≡ None
-    → (a.state).decisions ≡ Decision.Opened g rule None ∷ Decision.Granted g' facts verdict route None ∷ []
+    → (a.state).decisions ≡ Decision.Opened g rule None ∷ behind_lookup s (Decision.Granted g' facts verdict route None ∷ [])
     → HasDialled told basis net net' now a (record { state = (let r = a.state in record r { decisions = pushed }); client = a.client; target = a.target }) o
-dialled-down told basis net net' now a to pushed o g g' rule facts verdict route k none standing since uncaused is = record {
+dialled-down told basis net net' now a to pushed o g g' rule s facts verdict route k none standing since uncaused is = record {
   stands = standing;
   g = g;
   rule = rule;
+  sought = s;
   g' = g';
   facts = facts;
   verdict = verdict;
@@ -398,16 +415,17 @@ dialled-down told basis net net' now a to pushed o g g' rule facts verdict route
 }
   where
     to-is : to ≡ facts.to
-    to-is = granted-facts (a.state).decisions to g rule g' facts verdict route k.to' is
+    to-is = granted-facts (a.state).decisions to g rule s g' facts verdict route k.to' is
 
-pub dialled-up : {L : Type 0} (told : L → Told) (basis : Basis) (net net' : NetTold) (now : ℕ) (a : Assoc L) (to local : Endpoint) (pushed after : List Decision) (g g' : ℕ) (rule : Option ℕ) (facts : Facts) (verdict : Verdict) (route : Option ℕ)
+pub dialled-up : {L : Type 0} (told : L → Told) (basis : Basis) (net net' : NetTold) (now : ℕ) (a : Assoc L) (to local : Endpoint) (pushed after : List Decision) (g g' : ℕ) (rule : Option ℕ) (s : Option Sought) (facts : Facts) (verdict : Verdict) (route : Option ℕ)
     → Dials told net net' now a to pushed (DialOutcome.CameUp local) → after ≡ slice_set pushed (length pushed - 1) (Decision.Reached to (Some local)) → Stands told basis a → (a.state).since ≡ now → (a.state).cause ≡ None
-    → (a.state).decisions ≡ Decision.Opened g rule None ∷ Decision.Granted g' facts verdict route None ∷ []
+    → (a.state).decisions ≡ Decision.Opened g rule None ∷ behind_lookup s (Decision.Granted g' facts verdict route None ∷ [])
     → HasDialled told basis net net' now a (record { state = (let r = a.state in record r { decisions = after; since = now }); client = a.client; target = a.target }) (DialOutcome.CameUp local)
-dialled-up told basis net net' now a to local pushed after g g' rule facts verdict route k set' standing since uncaused is = record {
+dialled-up told basis net net' now a to local pushed after g g' rule s facts verdict route k set' standing since uncaused is = record {
   stands = standing;
   g = g;
   rule = rule;
+  sought = s;
   g' = g';
   facts = facts;
   verdict = verdict;
@@ -428,4 +446,4 @@ dialled-up told basis net net' now a to local pushed after g g' rule facts verdi
 }
   where
     to-is : to ≡ facts.to
-    to-is = granted-facts (a.state).decisions to g rule g' facts verdict route k.to' is
+    to-is = granted-facts (a.state).decisions to g rule s g' facts verdict route k.to' is

@@ -1,12 +1,13 @@
 -- What a turn that dials comes to.
-use Rattle.std.proofs.Common.{◌≡◌, ℕ, ◌+◌, ◌<◌, Bool, true, false, ◌&&◌, ◌||◌, not, Option, Some, None, List, [], ◌∷◌, ◌++◌, length, drop, refl, sym, ap, subst, ◌∙◌, is_some, length-append, append_assoc, arith}
+use Rattle.std.proofs.Common.{◌≡◌, ℕ, ◌+◌, ◌<◌, Bool, true, false, ◌&&◌, ◌||◌, not, Option, Some, None, List, [], ◌∷◌, ◌++◌, length, drop, refl, sym, ap, subst, ◌∙◌, is_some, IfSome, option_and_then, length-append, append_assoc, arith, ◌≤◌}
 use Rattle.std.proofs.lemmas.List.{append-nil}
 use mathlib.Core.List.{IsPrefix}
 use Rattle.addr_pattern.specs.declared.endpoint.Endpoint.{Endpoint}
 use Rattle.conf_model.specs.declared.config.Config.{Config}
+use Rattle.conf_model.specs.declared.protocol.Command.{Command}
 use Rattle.conf_model.specs.declared.user.User.{User}
 use Rattle.net_ends.specs.Counts.{Counts, Rose}
-use Rattle.net_ends.specs.Nets.{DialOutcome, Dial, NetTold, Plan, SameLookups, dialled}
+use Rattle.net_ends.specs.Nets.{DialOutcome, Dial, LookedUp, NetTold, Plan, SameLookups, dialled}
 use Rattle.net_ends.specs.Told.{Told, IsFresh, more}
 use Rattle.rule_list.specs.declared.facts.Facts.{Facts}
 use Rattle.rule_list.specs.declared.verdict.Verdict.{Verdict}
@@ -18,22 +19,24 @@ use Rattle.socks_machine.specs.declared.record.Decision.{Decision}
 use Rattle.socks_machine.specs.declared.record.Record.{Record}
 use Rattle.socks_machine.specs.declared.world.Object.{Object}
 use Rattle.socks_machine.specs.Basis.{Basis}
-use Rattle.socks_machine.specs.Decisions.{Grant, reached_at}
-use Rattle.socks_machine.specs.Owed.{owed_to_client, owed_to_target}
+use Rattle.socks_machine.specs.Decisions.{Grant, granted, reached_at, peer_let_in}
+use Rattle.socks_machine.specs.Owed.{owed_to_client, owed_to_target, has_target, target_is_there, target_by}
 use Rattle.socks_machine.specs.Phase.{Phase}
 use Rattle.socks_machine.specs.Settle.{is_nothing}
 use Rattle.socks_machine.specs.Socks.{socks}
 use Rattle.socks_machine.specs.Taking.{reads_client, reads_target}
-use Rattle.socks_machine.specs.Turn.{has_pending, fault_cause, fault_fits, with_fault}
+use Rattle.socks_machine.specs.Turn.{guard, has_pending, fault_cause, fault_fits, with_fault}
+use Rattle.socks_machine.specs.View.{proxy_of_grant}
 use Rattle.assoc_core.specs.declared.assoc.Assoc.{Assoc}
 use Rattle.assoc_core.specs.declared.assoc.Next.{Next}
-use Rattle.assoc_core.specs.Plain.{IsPlainRecord, HasAsked, HasDecided, Judged, is_login_failed, owed_c, opening_owed, success_reply, refusal_owed, payload_to_client}
-use Rattle.assoc_core.specs.Reaching.{HasDialled, SameDesk, at_of, cause_of}
+use Rattle.assoc_core.specs.Plain.{IsPlainRecord, HasAsked, HasDecided, Judged, Sought, behind_lookup, name_sought, plain_to_client, plain_to_target, prelude_of, is_login_failed, owed_c, opening_owed, success_reply, refusal_owed, payload_to_client}
+use Rattle.connect_core.specs.Reaching.{cause_of}
+use Rattle.assoc_core.specs.Reaching.{HasDialled, SameDesk, at_of}
 use Rattle.assoc_core.specs.Stands.{GoesDirect, Stands, Holds, HoldsTarget, EndsBehind, GivesFirst}
-use Rattle.assoc_core.specs.Turns.{Turns, StopsReading, SameOutside, SameTarget, DialsAre, PlanStays, IsOuterOf, IsUnfailing, IsFull, IsThereAnd, links, outer_of}
+use Rattle.assoc_core.specs.Turns.{Turns, StopsReading, SameOutside, SameTarget, DialsAre, LookupsAre, PlanStays, IsOuterOf, IsUnfailing, IsFull, IsThereAnd, links, outer_of}
 use Rattle.assoc_core.proofs.Answering.{still-left}
-use Rattle.assoc_core.proofs.PlainRecords.{plain-owes-client, plain-owes-target}
-use Rattle.assoc_core.proofs.Reaching.{Dialling, reached_behind, basis_of, context_of, before, behind, grant_of, phase-before, same-opening, due_t, plain-behind, payload-none, reach_acts, with_object, ReachSends, reaches-on}
+use Rattle.assoc_core.proofs.PlainRecords.{passed_grant, plain-owes-client, plain-owes-target, granted-behind, unreached-behind}
+use Rattle.assoc_core.proofs.Reaching.{Dialling, connecting, dialler, at-behind, ds-behind, reached_behind, basis_of, context_of, before, behind, grant_of, phase-before, same-opening, due_t, plain-behind, payload-none, reach_acts, with_object, ReachSends, reaches-on}
 use Rattle.assoc_core.proofs.TalkTurns.{with_state}
 
 -- ---- what is owed
@@ -89,9 +92,10 @@ unlogged DialOutcome.Fault (Some x) = refl
 -- what a turn owes that has dialled, whichever write has failed
 pub due-as : (d : Dialling) (o : DialOutcome) (fault : Option Object) (sent_c sent_t : List ℕ) → owed_c (behind d (at_of o) sent_c sent_t (with_object fault (cause_of o))) ≡ due_c d o
 due-as d o fault sent_c sent_t =
-    ap (λ w. w ++ (success_reply d.c (at_of o) ++ (payload_to_client [] (at_of o) ++ refusal_owed d.c d.chosen (at_of o) (with_object fault (cause_of o))))) (same-opening d.c d.chosen (with_object fault (cause_of o)) (unlogged o fault))
+    ap (λ (z : Option Endpoint). plain_to_client d.c [] d.chosen z (with_object fault (cause_of o))) (at-behind d (at_of o))
+    ∙ (ap (λ w. w ++ (success_reply d.c (at_of o) ++ (payload_to_client [] (at_of o) ++ refusal_owed d.c d.chosen (at_of o) (with_object fault (cause_of o))))) (same-opening d.c d.chosen (with_object fault (cause_of o)) (unlogged o fault))
     ∙ (ap (λ z. opening_owed d.c d.chosen None ++ (success_reply d.c (at_of o) ++ (z ++ refusal_owed d.c d.chosen (at_of o) (with_object fault (cause_of o))))) (payload-none (at_of o))
-    ∙ due-with d o fault)
+    ∙ due-with d o fault))
 
 pub first-due : (d : Dialling) (z : List ℕ) → IsPrefix d.sent (opening_owed d.c d.chosen None ++ z)
 first-due d z = ((d.sent').0 ++ z, sym (append_assoc d.sent (d.sent').0 z) ∙ ap (λ s. s ++ z) ((d.sent').1 ∙ append-nil (opening_owed d.c d.chosen None)))
@@ -100,12 +104,23 @@ plain-with : (d : Dialling) (o : DialOutcome) (fault : Option Object) → IsPlai
 plain-with d o fault = plain-behind d (at_of o) d.sent [] (with_object fault (cause_of o)) (λ e. refl) (fails-caused o fault) (unlogged o fault)
     (first-due d _) (due_t d (at_of o), refl) (payload-none (at_of o))
 
+-- it goes by no proxy
+grant-behind : (d : Dialling) (at : Option Endpoint) → granted (reached_behind d at) ≡ Some (grant_of d)
+grant-behind d at = granted-behind d.sought (Decision.Granted d.g' (connecting d.asked) d.verdict d.route None ∷ Decision.Reached (d.asked).to at ∷ [])
+
+direct-behind : (d : Dialling) (at : Option Endpoint) → option_and_then (proxy_of_grant (basis_of d)) (granted (reached_behind d at)) ≡ None
+direct-behind d at = ap (option_and_then (proxy_of_grant (basis_of d))) (grant-behind d at) ∙ d.direct
+
+known-behind : (d : Dialling) (at : Option Endpoint) → IfSome (granted (reached_behind d at)) (λ g. g.generation ≤ length d.pubs)
+known-behind d at = subst (λ (z : Option Grant). IfSome z (λ g. g.generation ≤ length d.pubs)) (sym (grant-behind d at)) d.known
+
 owes-c : (d : Dialling) (o : DialOutcome) (fault : Option Object) → owed_to_client (basis_of d) (behind d (at_of o) d.sent [] (with_object fault (cause_of o))) ≡ due_c d o
-owes-c d o fault = plain-owes-client d.users d.pubs (behind d (at_of o) d.sent [] (with_object fault (cause_of o))) (plain-with d o fault) d.direct
+owes-c d o fault = plain-owes-client d.users d.pubs (behind d (at_of o) d.sent [] (with_object fault (cause_of o))) (plain-with d o fault) (direct-behind d (at_of o))
     ∙ due-as d o fault d.sent []
 
 owes-t : (d : Dialling) (o : DialOutcome) (fault : Option Object) → owed_to_target (basis_of d) (behind d (at_of o) d.sent [] (with_object fault (cause_of o))) ≡ due_t d (at_of o)
-owes-t d o fault = plain-owes-target d.users d.pubs (behind d (at_of o) d.sent [] (with_object fault (cause_of o))) (plain-with d o fault) d.direct
+owes-t d o fault = plain-owes-target d.users d.pubs (behind d (at_of o) d.sent [] (with_object fault (cause_of o))) (plain-with d o fault) (direct-behind d (at_of o))
+    ∙ ap (λ (z : Option Endpoint). plain_to_target (prelude_of (before d)) d.c z) (at-behind d (at_of o))
 
 -- ---- the writes
 
@@ -143,12 +158,19 @@ pending-t : (d : Dialling) (o : DialOutcome) (fault : Option Object) (sent_t res
     → has_pending (basis_of d) (behind d (at_of o) d.sent [] (with_object fault (cause_of o))) Object.Target ≡ true
 pending-t d o fault sent_t rest_t all some = ap (λ z. not (is_nothing (drop 0 z))) (owes-t d o fault) ∙ ap not (still-left [] sent_t rest_t (due_t d (at_of o)) all some)
 
+-- a target that came up is there
+target-there : (d : Dialling) (local : Endpoint) → has_target (behind d (Some local) d.sent [] None) ≡ true
+target-there d local =
+    ap (target_is_there (behind d (Some local) d.sent [] None)) (grant-behind d (Some local))
+    ∙ ap (λ (z : Option Endpoint). target_by z (peer_let_in (reached_behind d (Some local))) Command.Connect) (at-behind d (Some local))
+
 faults-as : (d : Dialling) (o : DialOutcome) (rest_c rest_t : List ℕ) (fault : Option Object) (unwritten : Bool) → FailedWrite d o rest_c rest_t fault unwritten
     → with_fault fault unwritten (behind d (at_of o) d.sent [] (cause_of o)) ≡ Some (behind d (at_of o) d.sent [] (with_object fault (cause_of o)))
 faults-as d o rest_c rest_t None unwritten h = ap (λ u. with_fault None u (behind d (at_of o) d.sent [] (cause_of o))) h
 faults-as d o rest_c rest_t (Some Object.Client) unwritten h = refl
 faults-as d o rest_c rest_t (Some Object.Target) unwritten h =
-    subst (λ (p : DialOutcome). with_fault (Some Object.Target) unwritten (behind d (at_of p) d.sent [] (cause_of p)) ≡ Some (behind d (at_of p) d.sent [] (with_object (Some Object.Target) (cause_of p)))) (sym h.2.1) refl
+    subst (λ (p : DialOutcome). with_fault (Some Object.Target) unwritten (behind d (at_of p) d.sent [] (cause_of p)) ≡ Some (behind d (at_of p) d.sent [] (with_object (Some Object.Target) (cause_of p)))) (sym h.2.1)
+    (ap (λ (b : Bool). guard b (Some (behind d (Some h.2.0) d.sent [] (Some Cause.TargetFault)))) (target-there d h.2.0))
 faults-as d o rest_c rest_t (Some Object.Door) unwritten h = absurd h
 faults-as d o rest_c rest_t (Some Object.Port) unwritten h = absurd h
 
@@ -177,12 +199,13 @@ sends-as d o y_c rest_c sent_c rest_t sent_t fault unwritten k = record {
 
 -- ---- from what was dialled
 
-pub judged-of : (users : List User) (r : Record) (ds : List Decision) (g : ℕ) (rule : Option ℕ) (g' : ℕ) (facts : Facts) (verdict : Verdict) (route : Option ℕ)
-    → ds ≡ Decision.Opened g rule None ∷ Decision.Granted g' facts verdict route None ∷ [] → HasDecided users r ds → Judged users r facts None
-judged-of users r ds g rule g' facts verdict route is h = subst (HasDecided users r) is h
+pub judged-of : (users : List User) (r : Record) (ds : List Decision) (g : ℕ) (rule : Option ℕ) (s : Option Sought) (g' : ℕ) (facts : Facts) (verdict : Verdict) (route : Option ℕ)
+    → ds ≡ Decision.Opened g rule None ∷ behind_lookup s (Decision.Granted g' facts verdict route None ∷ []) → HasDecided users r ds → Judged users r (name_sought s) facts None
+judged-of users r ds g rule None g' facts verdict route is h = subst (HasDecided users r) is h
+judged-of users r ds g rule (Some l) g' facts verdict route is h = subst (HasDecided users r) is h
 
-pub judged-in : {L : Type 0} (told : L → Told) (basis : Basis) (net net' : NetTold) (now : ℕ) (a b : Assoc L) (o : DialOutcome) (k : HasDialled told basis net net' now a b o) → Judged basis.users a.state k.facts None
-judged-in told basis net net' now a b o k = judged-of basis.users a.state (a.state).decisions k.g k.rule k.g' k.facts k.verdict k.route k.granted' ((k.stands).plain).decided
+pub judged-in : {L : Type 0} (told : L → Told) (basis : Basis) (net net' : NetTold) (now : ℕ) (a b : Assoc L) (o : DialOutcome) (k : HasDialled told basis net net' now a b o) → Judged basis.users a.state (name_sought k.sought) k.facts None
+judged-in told basis net net' now a b o k = judged-of basis.users a.state (a.state).decisions k.g k.rule k.sought k.g' k.facts k.verdict k.route k.granted' ((k.stands).plain).decided
 
 abbrev pub dialling_of : {L : Type 0} (told : L → Told) (users : List User) (pubs : List Config) (generation : ℕ) (config : Config) (most : ℕ) (h : List Line) (marks : List StopBy)
     (net net' : NetTold) (now : ℕ) (a b : Assoc L) (o : DialOutcome) → HasDialled told (socks users pubs) net net' now a b o → Dialling
@@ -197,6 +220,7 @@ dialling_of told users pubs generation config most h marks net net' now a b o k 
   party = record { number = (a.state).number; peer = (a.state).peer; local = (a.state).local; since = now };
   g = k.g;
   rule = k.rule;
+  sought = k.sought;
   g' = k.g';
   asked = k.facts;
   verdict = k.verdict;
@@ -209,14 +233,18 @@ dialling_of told users pubs generation config most h marks net net' now a b o k 
   served = ((k.stands).plain).served;
   chosen' = ((k.stands).plain).chosen';
   whole = asked'.whole;
-  sent' = subst (λ (ds : List Decision). IsPrefix (a.state).sent_c (owed_c (let r = a.state in record r { decisions = ds; cause = None }))) k.granted'
+  named = (judged-in told (socks users pubs) net net' now a b o k).named;
+  sent' = subst (λ (z : Option Endpoint). IsPrefix (a.state).sent_c (plain_to_client (a.state).c (a.state).t (a.state).chosen z None)) (ap reached_at k.granted' ∙ unreached-behind k.g k.rule k.sought k.g' k.facts k.verdict k.route None)
       (subst (λ (o : Option Cause). IsPrefix (a.state).sent_c (owed_c (let r = a.state in record r { cause = o }))) k.uncaused ((k.stands).plain).sent_c);
-  direct = direct'.direct;
-  known = direct'.known;
+  direct = sym (ap (option_and_then (proxy_of_grant (socks users pubs))) granted') ∙ direct'.direct;
+  known = subst (λ (z : Option Grant). IfSome z (λ g. g.generation ≤ length pubs)) granted' direct'.known;
 }
   where
-    direct' : GoesDirect (socks users pubs) (Decision.Opened k.g k.rule None ∷ Decision.Granted k.g' k.facts k.verdict k.route None ∷ [])
-    direct' = subst (GoesDirect (socks users pubs)) k.granted' (k.stands).direct
+    direct' : GoesDirect (socks users pubs) (a.state).decisions
+    direct' = (k.stands).direct
+
+    granted' : granted (a.state).decisions ≡ Some (passed_grant k.g' k.facts k.verdict k.route)
+    granted' = ap granted k.granted' ∙ granted-behind k.sought (Decision.Granted k.g' k.facts k.verdict k.route None ∷ [])
 
     asked' : HasAsked users a.state
     asked' = (judged-in told (socks users pubs) net net' now a b o k).asked
@@ -238,7 +266,7 @@ before-is told users pubs generation config most h marks net net' now a b o k = 
   shut_c = (j.untargeted).shut_c i;
   shut_t = (j.untargeted).shut_t i;
   chosen = (a.state).chosen;
-  decisions = (k.granted' ∙ (λ n. Decision.Opened k.g k.rule None ∷ Decision.Granted k.g' (let f = k.facts in record f { command = j.command n }) k.verdict k.route None ∷ [])) i;
+  decisions = (k.granted' ∙ (λ n. Decision.Opened k.g k.rule None ∷ behind_lookup k.sought (Decision.Granted k.g' (let f = k.facts in record f { command = j.command n }) k.verdict k.route None ∷ []))) i;
   grams = ((k.stands).plain).grams i;
   sent_u = ((k.stands).plain).sent_u i;
   cause = k.uncaused i;
@@ -246,7 +274,7 @@ before-is told users pubs generation config most h marks net net' now a b o k = 
   done = ((k.stands).plain).undone i;
 }
   where
-    j : Judged users a.state k.facts None
+    j : Judged users a.state (name_sought k.sought) k.facts None
     j = judged-in told (socks users pubs) net net' now a b o k
 
 pub behind-is : {L : Type 0} (told : L → Told) (users : List User) (pubs : List Config) (generation : ℕ) (config : Config) (most : ℕ) (h : List Line) (marks : List StopBy)
@@ -255,6 +283,10 @@ pub behind-is : {L : Type 0} (told : L → Told) (users : List User) (pubs : Lis
 behind-is told users pubs generation config most h marks net net' now a b o k =
     k.state' ∙ ap (λ (r : Record). let z : Record = record r { since = now; decisions = r.decisions ++ Decision.Reached (k.facts).to (at_of o) ∷ [] } in z)
     (before-is told users pubs generation config most h marks net net' now a b o k)
+    ∙ ap (λ (ds : List Decision). dialler d.party d.c (a.state).sent_c [] d.chosen ds None) (ds-behind d (at_of o))
+  where
+    d : Dialling
+    d = dialling_of told users pubs generation config most h marks net net' now a b o k
 
 -- ---- the dial
 
@@ -265,8 +297,15 @@ dials-as DialOutcome.NoHost old new g h = (DialOutcome.NoHost, refl, h)
 dials-as DialOutcome.NoNet old new g h = (DialOutcome.NoNet, refl, h)
 dials-as DialOutcome.Fault old new g h = (DialOutcome.Fault, refl, h)
 
+lookups-as : (o : DialOutcome) (old new : Option (List LookedUp)) (g : Grant) → new ≡ old → LookupsAre old new (Phase.Reach g) (outer_of o)
+lookups-as (DialOutcome.CameUp local) old new g h = h
+lookups-as DialOutcome.WasRefused old new g h = h
+lookups-as DialOutcome.NoHost old new g h = h
+lookups-as DialOutcome.NoNet old new g h = h
+lookups-as DialOutcome.Fault old new g h = h
+
 plan-as : (d : Dialling) (o : DialOutcome) (net net' : NetTold) → (at_of o ≡ None → net'.plan ≡ net.plan) → PlanStays net net' (outer_of o) (is_some (reached_at (reached_behind d (at_of o))))
-plan-as d (DialOutcome.CameUp local) net net' h = refl
+plan-as d (DialOutcome.CameUp local) net net' h = ap is_some (at-behind d (Some local))
 plan-as d DialOutcome.WasRefused net net' h = h refl
 plan-as d DialOutcome.NoHost net net' h = h refl
 plan-as d DialOutcome.NoNet net net' h = h refl
@@ -353,7 +392,7 @@ turns-reached told counts d net net' a z o y_c rest_c rest_t full_c full_t fault
   state' = h.state';
   desk = (refl, refl);
   goes_on = subst (IsPlainRecord d.users) (sym h.state') plain;
-  direct = record { direct = d.direct; known = d.known };
+  direct = record { direct = direct-behind d (at_of o); known = known-behind d (at_of o) };
   c = sym (append-nil d.c);
   t = refl;
   ends_c = λ e. absurd (cc);
@@ -371,7 +410,8 @@ turns-reached told counts d net net' a z o y_c rest_c rest_t full_c full_t fault
   behind = before d;
   taken' = λ worker. refl;
   dials = subst (λ (p : Phase). DialsAre net.dials net'.dials p (outer_of o)) (sym (phase-before d)) (dials-as o net.dials net'.dials (grant_of d) h.dials);
-  lookups = h.lookups;
+  lookups = subst (λ (p : Phase). LookupsAre net.lookups net'.lookups p (outer_of o)) (sym (phase-before d)) (lookups-as o net.lookups net'.lookups (grant_of d) (h.lookups).lookups);
+  lookup_plan = (h.lookups).plan;
   plan' = plan-as d o net net' h.kept;
   outer' = subst (λ (p : Phase). IsOuterOf net p (outer_of o)) (sym (phase-before d)) (outer-as d o net h.planned);
   stops_c = λ worker. StopsReading.unread (record { behind = before d; taken' = refl; unread' = ap (reads_client (basis_of d) [] (links full_c full_t) (before d)) (phase-before d) });
@@ -381,7 +421,7 @@ turns-reached told counts d net net' a z o y_c rest_c rest_t full_c full_t fault
   idle_c = λ e. absurd (cc);
   idle_t = λ e. absurd (cc);
   full_c = λ e. ((h.fills_c e).1, (h.fills_c e).2, short-of (d.sent ++ y_c) rest_c _ owed (h.fills_c e).0);
-  full_t = λ e. ((h.fills_t e).1, short-of (z.state).sent_t rest_t _ (h.writes).all_t (h.fills_t e).0);
+  full_t = λ e. ((h.fills_t e).1, short-of (z.state).sent_t rest_t _ ((h.writes).all_t ∙ sym (ap (λ (z : Option Endpoint). plain_to_target (prelude_of (before d)) d.c z) (at-behind d (at_of o)))) (h.fills_t e).0);
   fails_c = h.fails_c;
   unfailing = h.unfailing;
 }

@@ -21,9 +21,9 @@ use Rattle.socks_machine.specs.declared.world.Object.{Object}
 use Rattle.socks_machine.specs.declared.world.Outer.{Outer}
 use Rattle.socks_machine.specs.declared.world.TurnEvent.{TurnEvent}
 use Rattle.socks_machine.specs.Basis.{Basis}
-use Rattle.socks_machine.specs.Calls.{Context, TurnResult, keep, call, decided, dialled, is_calling}
+use Rattle.socks_machine.specs.Calls.{Context, TurnResult, keep, call, decided, dialled, is_calling, name_of}
 use Rattle.socks_machine.specs.Datagrams.{owed_datagrams}
-use Rattle.socks_machine.specs.Decisions.{Grant}
+use Rattle.socks_machine.specs.Decisions.{Grant, reached_at}
 use Rattle.socks_machine.specs.InTurn.{Called}
 use Rattle.socks_machine.specs.Owed.{owed_to_client, owed_to_target}
 use Rattle.socks_machine.specs.Inputs.{is_served_split}
@@ -33,11 +33,12 @@ use Rattle.socks_machine.specs.Socks.{socks, chosen_reply, passed_reply}
 use Rattle.socks_machine.specs.Turn.{turn, moves, fault_fits, with_fault, fault_cause}
 use Rattle.socks_machine.proofs.CallLaws.{answers-call}
 use Rattle.socks_machine.specs.View.{proxy_in, asks_login}
-use Rattle.assoc_core.specs.Plain.{IsPlainRecord, HasAsked, HasChosen, split_by, prelude_of, is_login_failed, opening_owed, success_reply, refusal_owed, plain_to_target, payload_to_client}
-use Rattle.assoc_core.specs.Reaching.{at_of, cause_of}
+use Rattle.assoc_core.specs.Plain.{IsPlainRecord, HasAsked, HasChosen, Sought, behind_lookup, name_sought, plain_to_client, split_by, prelude_of, is_login_failed, opening_owed, success_reply, refusal_owed, plain_to_target, payload_to_client}
+use Rattle.connect_core.specs.Reaching.{cause_of}
+use Rattle.assoc_core.specs.Reaching.{at_of}
 use Rattle.assoc_core.specs.Turns.{Acts, event_of, context, outer_of}
 use Rattle.assoc_core.proofs.Payload.{unfailed}
-use Rattle.assoc_core.proofs.PlainRecords.{and-false, reach-phase, passed_grant}
+use Rattle.assoc_core.proofs.PlainRecords.{and-false, reach-phase, passed_grant, has-dialled, behind-more, at-behind as at-lookup}
 use Rattle.assoc_core.proofs.TalkCloses.{sends}
 use Rattle.assoc_core.proofs.Talking.{Party}
 
@@ -55,6 +56,7 @@ pub record Dialling : Type 0 where
   pub party : Party
   pub g : ℕ
   pub rule : Option ℕ
+  pub sought : Option Sought
   pub g' : ℕ
   pub asked : Facts
   pub verdict : Verdict
@@ -67,6 +69,7 @@ pub record Dialling : Type 0 where
   pub served : is_served_split (split_by users chosen c) ≡ true
   pub chosen' : HasChosen c chosen
   pub whole : split_by users chosen c ≡ Split.Whole request len
+  pub named : name_of request.host ≡ name_sought sought
   pub sent' : IsPrefix sent (opening_owed c chosen None ++ [])
   pub direct : proxy_in route (numbered pubs g') ≡ None
   pub known : g' ≤ length pubs
@@ -99,10 +102,17 @@ abbrev pub connecting : Facts → Facts
 connecting facts = record facts { command = Command.Connect }
 
 abbrev pub granted_before : Dialling → List Decision
-granted_before d = Decision.Opened d.g d.rule None ∷ Decision.Granted d.g' (connecting d.asked) d.verdict d.route None ∷ []
+granted_before d = Decision.Opened d.g d.rule None ∷ behind_lookup d.sought (Decision.Granted d.g' (connecting d.asked) d.verdict d.route None ∷ [])
 
 abbrev pub reached_behind : Dialling → Option Endpoint → List Decision
-reached_behind d at = granted_before d ++ Decision.Reached (d.asked).to at ∷ []
+reached_behind d at = Decision.Opened d.g d.rule None ∷ behind_lookup d.sought (Decision.Granted d.g' (connecting d.asked) d.verdict d.route None ∷ Decision.Reached (d.asked).to at ∷ [])
+
+pub ds-behind : (d : Dialling) (at : Option Endpoint) → granted_before d ++ Decision.Reached (d.asked).to at ∷ [] ≡ reached_behind d at
+ds-behind d at = ap (λ (ds : List Decision). Decision.Opened d.g d.rule None ∷ ds)
+    (behind-more d.sought (Decision.Granted d.g' (connecting d.asked) d.verdict d.route None ∷ []) (Decision.Reached (d.asked).to at ∷ []))
+
+pub at-behind : (d : Dialling) (at : Option Endpoint) → reached_at (reached_behind d at) ≡ at
+at-behind d at = at-lookup d.g d.rule d.sought d.g' (connecting d.asked) d.verdict d.route (d.asked).to at
 
 abbrev pub basis_of : Dialling → Basis
 basis_of d = socks d.users d.pubs
@@ -120,7 +130,8 @@ abbrev pub grant_of : Dialling → Grant
 grant_of d = passed_grant d.g' (connecting d.asked) d.verdict d.route
 
 pub phase-before : (d : Dialling) → phase (basis_of d) (before d) ≡ Phase.Reach (grant_of d)
-phase-before d = reach-phase d.users d.pubs (before d) d.g d.rule d.g' (connecting d.asked) d.verdict d.route refl refl d.served (record { request = d.request; len = d.len; whole = d.whole })
+phase-before d = reach-phase d.users d.pubs (before d) d.g d.rule d.sought d.g' (connecting d.asked) d.verdict d.route
+    (record { undone = refl; uncaused = refl; asked = record { request = d.request; len = d.len; whole = d.whole }; named = d.named })
 
 -- ---- the call
 
@@ -130,36 +141,39 @@ dialled_by d o = record { left = behind d (at_of o) d.sent [] (cause_of o); h = 
 to-is : (d : Dialling) → dialled (grant_of d) (proxy_in d.route (numbered d.pubs d.g')) ≡ (d.asked).to
 to-is d = ap (dialled (grant_of d)) d.direct
 
+-- the record of a dial that came out so, once its destination is known
+dialled-as : (d : Dialling) (at : Option Endpoint) (cause : Option Cause)
+    → keep (context_of d) (decided (Decision.Reached (dialled (grant_of d) (proxy_in d.route (numbered d.pubs d.g'))) at) cause (before d))
+    ≡ record { left = behind d at d.sent [] (first_cause cause None); h = d.h; marks = d.marks }
+dialled-as d at cause =
+    ap (λ (to : Endpoint). keep (context_of d) (decided (Decision.Reached to at) cause (before d))) (to-is d)
+    ∙ ap (λ (ds : List Decision). record { left = dialler d.party d.c d.sent [] d.chosen ds (first_cause cause None); h = d.h; marks = d.marks }) (ds-behind d at)
+
 pub called-as : (d : Dialling) (o : DialOutcome) → Called (context_of d) (outer_of o) None (before d) (dialled_by d o)
 called-as d (DialOutcome.CameUp local) = record {
   some = refl;
   due = ap (λ (p : Phase). is_calling p None) (phase-before d);
-  made = ap (λ (p : Phase). call (context_of d) (before d) p None (Outer.Up local)) (phase-before d)
-      ∙ ap (λ (to : Endpoint). Some (keep (context_of d) (decided (Decision.Reached to (Some local)) None (before d)))) (to-is d);
+  made = ap (λ (p : Phase). call (context_of d) (before d) p None (Outer.Up local)) (phase-before d) ∙ ap (λ (m : TurnResult). Some m) (dialled-as d (Some local) None);
 }
 called-as d DialOutcome.WasRefused = record {
   some = refl;
   due = ap (λ (p : Phase). is_calling p None) (phase-before d);
-  made = ap (λ (p : Phase). call (context_of d) (before d) p None Outer.Refused) (phase-before d)
-      ∙ ap (λ (to : Endpoint). Some (keep (context_of d) (decided (Decision.Reached to None) (Some Cause.Refused) (before d)))) (to-is d);
+  made = ap (λ (p : Phase). call (context_of d) (before d) p None Outer.Refused) (phase-before d) ∙ ap (λ (m : TurnResult). Some m) (dialled-as d None (Some Cause.Refused));
 }
 called-as d DialOutcome.NoHost = record {
   some = refl;
   due = ap (λ (p : Phase). is_calling p None) (phase-before d);
-  made = ap (λ (p : Phase). call (context_of d) (before d) p None Outer.HostUnreachable) (phase-before d)
-      ∙ ap (λ (to : Endpoint). Some (keep (context_of d) (decided (Decision.Reached to None) (Some Cause.HostUnreachable) (before d)))) (to-is d);
+  made = ap (λ (p : Phase). call (context_of d) (before d) p None Outer.HostUnreachable) (phase-before d) ∙ ap (λ (m : TurnResult). Some m) (dialled-as d None (Some Cause.HostUnreachable));
 }
 called-as d DialOutcome.NoNet = record {
   some = refl;
   due = ap (λ (p : Phase). is_calling p None) (phase-before d);
-  made = ap (λ (p : Phase). call (context_of d) (before d) p None Outer.NetUnreachable) (phase-before d)
-      ∙ ap (λ (to : Endpoint). Some (keep (context_of d) (decided (Decision.Reached to None) (Some Cause.NetUnreachable) (before d)))) (to-is d);
+  made = ap (λ (p : Phase). call (context_of d) (before d) p None Outer.NetUnreachable) (phase-before d) ∙ ap (λ (m : TurnResult). Some m) (dialled-as d None (Some Cause.NetUnreachable));
 }
 called-as d DialOutcome.Fault = record {
   some = refl;
   due = ap (λ (p : Phase). is_calling p None) (phase-before d);
-  made = ap (λ (p : Phase). call (context_of d) (before d) p None Outer.Failed) (phase-before d)
-      ∙ ap (λ (to : Endpoint). Some (keep (context_of d) (decided (Decision.Reached to None) (Some Cause.NetFault) (before d)))) (to-is d);
+  made = ap (λ (p : Phase). call (context_of d) (before d) p None Outer.Failed) (phase-before d) ∙ ap (λ (m : TurnResult). Some m) (dialled-as d None (Some Cause.NetFault));
 }
 
 -- ---- what is owed behind it
@@ -183,18 +197,19 @@ plain-behind d at sent_c sent_t cause unreached caused unlogged c t none = recor
   served = d.served;
   chosen' = d.chosen';
   failed = unlogged ∙ sym (unfailed d.users (behind d at sent_c sent_t cause) asked');
-  decided = record {
+  decided = has-dialled d.users (behind d at sent_c sent_t cause) d.g d.rule d.sought d.g' (connecting d.asked) d.verdict d.route (d.asked).to at (record {
     asked = asked';
+    named = d.named;
     command = refl;
     unreached = λ e. record { t = refl; sent_t = unreached e; end_t = refl; shut_c = refl; shut_t = refl };
     failed = caused;
     apart = refl;
     shut_c = λ e. absurd (cc);
     shut_t = λ e. absurd (cc);
-  };
-  sent_c = subst (λ (w : List ℕ). IsPrefix sent_c (w ++ (success_reply d.c at ++ (payload_to_client [] at ++ refusal_owed d.c d.chosen at cause)))) (sym (same-opening d.c d.chosen cause unlogged))
-      (subst (λ (z : List ℕ). IsPrefix sent_c (opening_owed d.c d.chosen None ++ (success_reply d.c at ++ (z ++ refusal_owed d.c d.chosen at cause)))) (sym none) c);
-  sent_t = t;
+  });
+  sent_c = subst (λ (z : Option Endpoint). IsPrefix sent_c (plain_to_client d.c [] d.chosen z cause)) (sym (at-behind d at)) (subst (λ (w : List ℕ). IsPrefix sent_c (w ++ (success_reply d.c at ++ (payload_to_client [] at ++ refusal_owed d.c d.chosen at cause)))) (sym (same-opening d.c d.chosen cause unlogged))
+      (subst (λ (z : List ℕ). IsPrefix sent_c (opening_owed d.c d.chosen None ++ (success_reply d.c at ++ (z ++ refusal_owed d.c d.chosen at cause)))) (sym none) c));
+  sent_t = subst (λ (z : Option Endpoint). IsPrefix sent_t (plain_to_target (prelude_of (before d)) d.c z)) (sym (at-behind d at)) t;
 }
   where
     asked' : HasAsked d.users (behind d at sent_c sent_t cause)

@@ -212,8 +212,9 @@ pub opened-by : (users : List User) (r : Record) (at : Endpoint) → IsPlainReco
 opened-by users r at plain reaches = decided-forms users r (λ ds. reached_at ds ≡ Some at → is_opened ds ≡ true) (record {
   nothing = λ fresh' k. absurd (cc);
   opened' = λ g rule d k. refl;
-  granted' = λ g rule g' facts verdict route refused d k. refl;
-  reached' = λ g rule g' facts verdict route to at' d k. refl;
+  looked' = λ g rule name found d k. refl;
+  granted' = λ g rule s g' facts verdict route refused d k. refl;
+  reached' = λ g rule s g' facts verdict route to at' d k. refl;
 }) r.decisions plain.decided reaches
 
 -- a call on one side fails where that side is read, has something pending, or is to be shut

@@ -15,30 +15,34 @@ use Rattle.socks_machine.specs.declared.lines.Line.{Line}
 use Rattle.socks_machine.specs.declared.record.Chosen.{Chosen}
 use Rattle.socks_machine.specs.declared.record.Decision.{Decision}
 use Rattle.socks_machine.specs.declared.record.Record.{Record}
-use Rattle.socks_machine.specs.Calls.{Context}
+use Rattle.socks_machine.specs.Calls.{Context, name_of}
 use Rattle.socks_machine.specs.Decisions.{granted, reached_at}
 use Rattle.socks_machine.specs.Front.{Proxy}
 use Rattle.socks_machine.specs.Owed.{has_target, target_by}
-use Rattle.socks_machine.specs.Phase.{way, began_by, relay_began, prelude_length, is_udp}
+use Rattle.socks_machine.specs.Phase.{way, began_by, relay_began, prelude_length, is_udp, is_udp_grant}
 use Rattle.socks_machine.specs.Relaying.{RelayFacts}
 use Rattle.socks_machine.specs.Socks.{socks, chosen_reply, passed_reply, success}
 use Rattle.socks_machine.specs.View.{asks_login, outcome_with, proxy_in, proxy_of, proxy_of_grant}
 use Rattle.socks_machine.proofs.SocksRelay.{relay-facts}
-use Rattle.assoc_core.specs.Plain.{IsPlainRecord, HasAsked, HasDecided, Dialled, split_in, is_login_failed, owed_c, owed_t, plain_to_client}
+use Rattle.assoc_core.specs.Plain.{IsPlainRecord, HasAsked, HasDecided, Dialled, Sought, behind_lookup, name_sought, split_in, is_login_failed, owed_c, owed_t, plain_to_client}
 use Rattle.assoc_core.specs.Turns.{context}
 use Rattle.assoc_core.proofs.Payload.{length-is, prelude-within, asked-extends, chosen-stays, served-stays, unfailed}
-use Rattle.assoc_core.proofs.PlainRecords.{decided-forms, passed_grant, relay-phase}
+use Rattle.assoc_core.proofs.PlainRecords.{decided-forms, passed_grant, relay-phase, granted-behind, at-behind, unreached-behind, has-dialled}
 
 -- ---- what the definitions say
 
 -- a whole prelude is whole in each record of the same input
-pub asked-as : (users : List User) (r x : Record) → split_in users x ≡ split_in users r → HasAsked users r → HasAsked users x
+abbrev pub asked-as : (users : List User) (r x : Record) → split_in users x ≡ split_in users r → HasAsked users r → HasAsked users x
 asked-as users r x e h = record { request = h.request; len = h.len; whole = e ∙ h.whole }
+
+not-reached : {A : Type 0} (at : Endpoint) → None ≡ Some at → A
+not-reached at e = absurd (cc)
 
 -- a record that was dialled, with its link up
 pub record IsRelayed (users : List User) (r : Record) (at : Endpoint) : Type 0 where
+  pub name : Option (List ℕ)
   pub facts : Facts
-  pub dialled : Dialled users r facts (Some at)
+  pub dialled : Dialled users r name facts (Some at)
 
 abbrev RelayedBy : List User → Record → Endpoint → List Decision → Type 0
 RelayedBy users r at ds = reached_at ds ≡ Some at → IsRelayed users r at
@@ -47,8 +51,10 @@ pub is-relayed : (users : List User) (r : Record) (at : Endpoint) → IsPlainRec
 is-relayed users r at h reaches = decided-forms users r (RelayedBy users r at) (record {
   nothing = λ fresh' k. absurd (cc);
   opened' = λ g rule d k. absurd (cc);
-  granted' = λ g rule g' facts verdict route refused d k. absurd (cc);
-  reached' = λ g rule g' facts verdict route to at' d k. record { facts = facts; dialled = subst (λ (z : Option Endpoint). Dialled users r facts z) k d };
+  looked' = λ g rule name found d k. absurd (cc);
+  granted' = λ g rule s g' facts verdict route refused d k. not-reached at (sym (unreached-behind g rule s g' facts verdict route refused) ∙ k);
+  reached' = λ g rule s g' facts verdict route to at' d k.
+      record { name = name_sought s; facts = facts; dialled = subst (λ (z : Option Endpoint). Dialled users r (name_sought s) facts z) (sym (at-behind g rule s g' facts verdict route to at') ∙ k) d };
 }) r.decisions h.decided reaches
 
 abbrev FactsBy : Context → Record → List Decision → Type 0
@@ -59,30 +65,42 @@ pub plain-relay-facts : (users : List User) (pubs : List Config) (generation : �
 plain-relay-facts users pubs generation config cap h marks r at plain reaches uncaused direct = decided-forms users r (FactsBy s r) (record {
   nothing = λ fresh' direct' at k. absurd (cc);
   opened' = λ g rule d direct' at k. absurd (cc);
-  granted' = λ g rule g' facts verdict route refused d direct' at k. absurd (cc);
-  reached' = λ g rule g' facts verdict route to at' d direct' at k. up g rule g' facts verdict route to at (subst (λ (z : Option Endpoint). Dialled users r facts z) k d) direct' at' k;
+  looked' = λ g rule name found d direct' at k. absurd (cc);
+  granted' = λ g rule s g' facts verdict route refused d direct' at k. not-reached at (sym (unreached-behind g rule s g' facts verdict route refused) ∙ k);
+  reached' = λ g rule s g' facts verdict route to at' d direct' at k.
+      let is = sym (at-behind g rule s g' facts verdict route to at') ∙ k in
+      up g rule s g' facts verdict route to at (subst (λ (z : Option Endpoint). Dialled users r (name_sought s) facts z) is d)
+      (sym (ap (option_and_then (proxy_of_grant (socks users pubs))) (granted-behind s (Decision.Granted g' facts verdict route None ∷ Decision.Reached to at' ∷ []))) ∙ direct') at' is;
 }) r.decisions plain.decided direct at reaches
   where
     s : Context
     s = context users pubs generation config cap h marks
 
-    up : (g : ℕ) (rule : Option ℕ) (g' : ℕ) (facts : Facts) (verdict : Verdict) (route : Option ℕ) (to at : Endpoint) → Dialled users r facts (Some at) → proxy_in route (numbered pubs g') ≡ None → (at' : Option Endpoint) → at' ≡ Some at
-        → RelayFacts s (record r { decisions = Decision.Opened g rule None ∷ Decision.Granted g' facts verdict route None ∷ Decision.Reached to at' ∷ [] })
-    up g rule g' facts verdict route to at d direct' at' is = subst (λ (z : Option Endpoint). RelayFacts s (record r { decisions = Decision.Opened g rule None ∷ Decision.Granted g' facts verdict route None ∷ Decision.Reached to z ∷ [] })) (sym is)
-        (relay-facts s x refl (relay-phase users pubs r g rule g' facts verdict route to at plain.undone uncaused plain.served d direct') direct' began there plain.grams plain.sent_u long)
+    up : (g : ℕ) (rule : Option ℕ) (sought : Option Sought) (g' : ℕ) (facts : Facts) (verdict : Verdict) (route : Option ℕ) (to at : Endpoint) → Dialled users r (name_sought sought) facts (Some at) → proxy_in route (numbered pubs g') ≡ None → (at' : Option Endpoint) → at' ≡ Some at
+        → RelayFacts s (record r { decisions = Decision.Opened g rule None ∷ behind_lookup sought (Decision.Granted g' facts verdict route None ∷ Decision.Reached to at' ∷ []) })
+    up g rule sought g' facts verdict route to at d direct' at' is =
+        subst (λ (z : Option Endpoint). RelayFacts s (record r { decisions = Decision.Opened g rule None ∷ behind_lookup sought (Decision.Granted g' facts verdict route None ∷ Decision.Reached to z ∷ []) })) (sym is)
+        (relay-facts s (x sought) refl (relay-phase users pubs r g rule sought g' facts verdict route to at (record { undone = plain.undone; uncaused = uncaused; asked = d.asked; named = d.named }) d.command direct') (goes sought) (began sought) (there sought) plain.grams plain.sent_u (long sought))
       where
-        x : Record
-        x = record r { decisions = Decision.Opened g rule None ∷ Decision.Granted g' facts verdict route None ∷ Decision.Reached to (Some at) ∷ [] }
+        x : Option Sought → Record
+        x sought = record r { decisions = Decision.Opened g rule None ∷ behind_lookup sought (Decision.Granted g' facts verdict route None ∷ Decision.Reached to (Some at) ∷ []) }
 
-        began : relay_began (socks users pubs) x ≡ true
-        began = ap (λ (p : Option Proxy). began_by facts.command (way (Some at) (outcome_with r.t (passed_grant g' facts verdict route) p)) None) direct'
+        goes : (w : Option Sought) → proxy_of (socks users pubs) (x w) ≡ None
+        goes None = direct'
+        goes (Some l) = direct'
+
+        began : (w : Option Sought) → relay_began (socks users pubs) (x w) ≡ true
+        began None = ap (λ (p : Option Proxy). began_by facts.command (way (Some at) (outcome_with r.t (passed_grant g' facts verdict route) p)) None) direct'
+            ∙ ap (λ (k : Command). began_by k (Some at) None) d.command
+        began (Some l) = ap (λ (p : Option Proxy). began_by facts.command (way (Some at) (outcome_with r.t (passed_grant g' facts verdict route) p)) None) direct'
             ∙ ap (λ (k : Command). began_by k (Some at) None) d.command
 
-        there : has_target x ≡ true
-        there = ap (λ (k : Command). target_by (Some at) None k) d.command
+        there : (w : Option Sought) → has_target (x w) ≡ true
+        there None = ap (λ (k : Command). target_by (Some at) None k) d.command
+        there (Some l) = ap (λ (k : Command). target_by (Some at) None k) d.command
 
-        long : prelude_length (socks users pubs) x ≤ length r.c
-        long = subst (λ (n : ℕ). n ≤ length r.c) (sym (length-is users pubs r d.asked)) (prelude-within r)
+        long : (w : Option Sought) → prelude_length (socks users pubs) (x w) ≤ length r.c
+        long w = subst (λ (n : ℕ). n ≤ length r.c) (sym (length-is users pubs r d.asked)) (prelude-within r)
 
 -- ---- a turn keeps the form
 
@@ -122,8 +140,10 @@ carried-plain users old at c t end_c end_t sent_c sent_t shut_c shut_t cause pla
   decided = decided-forms users old (λ ds. reached_at ds ≡ Some at → HasDecided users x ds) (record {
     nothing = λ fresh' e. absurd (cc);
     opened' = λ g rule d e. absurd (cc);
-    granted' = λ g rule g' facts verdict route refused d e. absurd (cc);
-    reached' = λ g rule g' facts verdict route to at' d e. subst (λ (z : Option Endpoint). HasDecided users x (Decision.Opened g rule None ∷ Decision.Granted g' facts verdict route None ∷ Decision.Reached to z ∷ [])) (sym e) (dialled facts d.command);
+    looked' = λ g rule name found d e. absurd (cc);
+    granted' = λ g rule s g' facts verdict route refused d e. not-reached at (sym (unreached-behind g rule s g' facts verdict route refused) ∙ e);
+    reached' = λ g rule s g' facts verdict route to at' d e.
+        has-dialled users x g rule s g' facts verdict route to at' (subst (λ (z : Option Endpoint). Dialled users x (name_sought s) facts z) (sym (sym (at-behind g rule s g' facts verdict route to at') ∙ e)) (dialled (name_sought s) facts d.asked d.named d.command));
   }) old.decisions plain.decided reaches;
   sent_c = k.sent_c;
   sent_t = k.sent_t;
@@ -135,9 +155,10 @@ carried-plain users old at c t end_c end_t sent_c sent_t shut_c shut_t cause pla
     asked : HasAsked users old
     asked = (is-relayed users old at plain reaches).dialled.asked
 
-    dialled : (facts : Facts) → facts.command ≡ Command.Connect → Dialled users x facts (Some at)
-    dialled facts command = record {
-      asked = asked-as users (record old { c = old.c ++ c }) x refl (asked-extends users old c asked);
+    dialled : (name : Option (List ℕ)) (facts : Facts) (a : HasAsked users old) → name_of (a.request).host ≡ name → facts.command ≡ Command.Connect → Dialled users x name facts (Some at)
+    dialled name facts a named command = record {
+      asked = asked-as users (record old { c = old.c ++ c }) x refl (asked-extends users old c a);
+      named = named;
       command = command;
       unreached = λ e. absurd (cc);
       failed = λ e. absurd (cc);
@@ -159,8 +180,9 @@ pub plain-tcp : (users : List User) (r : Record) → IsPlainRecord users r → i
 plain-tcp users r plain = decided-forms users r (λ ds. is_udp (record r { decisions = ds }) ≡ false) (record {
   nothing = λ fresh'. refl;
   opened' = λ g rule d. refl;
-  granted' = λ g rule g' facts verdict route refused d. by-command facts.command d.command;
-  reached' = λ g rule g' facts verdict route to at d. by-command facts.command d.command;
+  looked' = λ g rule name found d. refl;
+  granted' = λ g rule s g' facts verdict route refused d. ap is_udp_grant (granted-behind s (Decision.Granted g' facts verdict route refused ∷ [])) ∙ by-command facts.command d.command;
+  reached' = λ g rule s g' facts verdict route to at d. ap is_udp_grant (granted-behind s (Decision.Granted g' facts verdict route None ∷ Decision.Reached to at ∷ [])) ∙ by-command facts.command d.command;
 }) r.decisions plain.decided
   where
     by-command : (k : Command) → k ≡ Command.Connect → (elim k [ Command.UdpAssociate ↦ true | _ ↦ false ]) ≡ false

@@ -4,7 +4,7 @@ use Rattle.addr_pattern.specs.declared.endpoint.Endpoint.{Endpoint}
 use Rattle.conf_model.specs.declared.config.Config.{Config}
 use Rattle.conf_model.specs.declared.user.User.{User}
 use Rattle.net_ends.specs.Counts.{Counts, Rose}
-use Rattle.net_ends.specs.Nets.{NetTold, Dial}
+use Rattle.net_ends.specs.Nets.{LookedUp, NetTold, Dial}
 use Rattle.net_ends.specs.Told.{Told}
 use Rattle.socks_machine.specs.declared.cause.Cause.{Cause}
 use Rattle.socks_machine.specs.declared.cause.StopBy.{StopBy}
@@ -33,7 +33,7 @@ use Rattle.assoc_core.specs.declared.relay.Pass.{Pass}
 use Rattle.assoc_core.specs.Carrying.{Passes, is_read, is_sound, is_idle, is_full, fault_of, unwritten_of}
 use Rattle.assoc_core.specs.Plain.{IsPlainRecord, is_login_failed, owed_c, owed_t, prelude_of}
 use Rattle.assoc_core.specs.Stands.{Holds, HoldsTarget, Stands}
-use Rattle.assoc_core.specs.Turns.{Acts, event_of, context, links, Turns, GoesOn, left_of, mark_of, DialsAre, PlanStays, IsOuterOf, IsIdle, IsFull, IsThereAnd, IsUnfailing, SameTarget}
+use Rattle.assoc_core.specs.Turns.{Acts, event_of, context, links, Turns, GoesOn, left_of, mark_of, DialsAre, LookupsAre, PlanStays, IsOuterOf, IsIdle, IsFull, IsThereAnd, IsUnfailing, SameTarget}
 use Rattle.assoc_core.proofs.LinksHeld.{holds-taken, holds-given, ends-given, first-given, idle-given, full-taken, outside-given, outside-taken, outside-on, short}
 use Rattle.assoc_core.proofs.PassLaws.{ended-of, idle-of, unread-of, stops-of, full-of, unsound-of, sent-of, FaultTells, fault-tells, fault-none, fault-unread, fault-read, fault-first, sound-written}
 use Rattle.assoc_core.proofs.PlainRecords.{plain-owes-client, plain-owes-target}
@@ -128,6 +128,11 @@ desk-dials dials p Outer.Nothing h = refl
 desk-dials dials p (Outer.Desk logged) h = refl
 desk-dials dials p _ h = absurd h
 
+pub desk-lookups : (lookups : Option (List LookedUp)) (p : Phase) (outer : Outer) → IsDesk outer → LookupsAre lookups lookups p outer
+desk-lookups lookups p Outer.Nothing h = refl
+desk-lookups lookups p (Outer.Desk logged) h = refl
+desk-lookups lookups p _ h = absurd h
+
 pub desk-plan : (net : NetTold) (outer : Outer) (there : Bool) → IsDesk outer → PlanStays net net outer there
 desk-plan net Outer.Nothing there h = refl
 desk-plan net (Outer.Desk logged) there h = refl
@@ -213,7 +218,8 @@ relay-turns {L} told counts stands users pubs generation config cap h marks now 
   behind = relayed a.state p.takes_c.part p.takes_t.part p.takes_c.ends p.takes_t.ends;
   taken' = λ worker. takes-is s.basis generation config.methods (event_of worker a.state.number now acts (mark_of next)) a.state _ (takes p.takes_c.ends p.takes_t.ends read_both);
   dials = desk-dials net.dials _ outer desk;
-  lookups = record { lookups = refl; plan = refl };
+  lookups = desk-lookups net.lookups _ outer desk;
+  lookup_plan = refl;
   plan' = desk-plan net outer _ desk;
   outer' = desk-outer net _ outer desk;
   stops_c = λ worker. stops-of fault _ p.takes_c (λ e. absurd (cc)) (λ e. ap is_some (sym is_fault) ∙ fault-first (is_read pass.took_c) (is_sound pass.gave_t) (is_read pass.took_t) (is_sound pass.gave_c) e);

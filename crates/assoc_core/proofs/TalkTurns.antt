@@ -1,5 +1,5 @@
 -- The turns with a client that talks.
-use Rattle.std.proofs.Common.{◌≡◌, ℕ, ◌<◌, Bool, true, false, ◌||◌, Option, Some, None, List, [], ◌++◌, length, refl, sym, ap, subst, ◌∙◌, length-append}
+use Rattle.std.proofs.Common.{◌≡◌, ℕ, ◌<◌, Bool, true, false, ◌||◌, Option, Some, None, List, [], ◌++◌, length, refl, sym, ap, subst, ◌∙◌, length-append, is_some}
 use Rattle.net_ends.specs.Counts.{Counts, Rose}
 use Rattle.net_ends.specs.Nets.{NetTold}
 use Rattle.net_ends.specs.Told.{Told, more}
@@ -11,6 +11,7 @@ use Rattle.socks_machine.specs.declared.world.Object.{Object}
 use Rattle.socks_machine.specs.declared.world.Outer.{Outer}
 use Rattle.socks_machine.specs.declared.world.TurnEvent.{TurnEvent}
 use Rattle.socks_machine.specs.Calls.{TurnResult}
+use Rattle.socks_machine.specs.Decisions.{reached_at}
 use Rattle.socks_machine.specs.InTurn.{Takes}
 use Rattle.socks_machine.specs.Phase.{Phase, phase}
 use Rattle.socks_machine.specs.Taking.{reads_client, reads_target}
@@ -21,9 +22,9 @@ use Rattle.assoc_core.specs.declared.assoc.Next.{Next}
 use Rattle.assoc_core.specs.Hearing.{IsAtEnd}
 use Rattle.assoc_core.specs.Plain.{owed_c}
 use Rattle.assoc_core.specs.Stands.{GoesDirect, Stands, Holds, EndsBehind, GivesFirst, HoldsTarget}
-use Rattle.assoc_core.specs.Turns.{Turns, Acts, event_of, links, mark_of, left_of, GoesOn, IsIdle, IsFull, SameOutside, SameTarget, DialsAre, PlanStays, IsOuterOf, StopsReading}
+use Rattle.assoc_core.specs.Turns.{Turns, Acts, event_of, links, mark_of, left_of, GoesOn, IsIdle, IsFull, SameOutside, SameTarget, DialsAre, LookupsAre, PlanStays, IsOuterOf, StopsReading}
 use Rattle.assoc_core.proofs.StandsLaws.{SameTargetSide, target-same, same-target}
-use Rattle.assoc_core.proofs.Talking.{Hearing, basis_of, context_of, before, heard_takings}
+use Rattle.assoc_core.proofs.Talking.{Hearing, Speaking, basis_of, context_of, before, speaking, spoken_to, spoken_in, unspoken, spoken_takings}
 
 -- ---- what its link tells
 
@@ -55,25 +56,25 @@ abbrev pub desk_outer : Option Bool → Outer
 desk_outer None = Outer.Nothing
 desk_outer (Some logged) = Outer.Desk logged
 
-desk-dials : (net : NetTold) (p : Phase) (desk : Option Bool) → DialsAre net.dials net.dials p (desk_outer desk)
-desk-dials net p None = refl
-desk-dials net p (Some logged) = refl
+-- what the net tells of the turn's outer call
+pub record CallsOut (net net' : NetTold) (p : Phase) (outer : Outer) (there : Bool) : Type 0 where
+  pub dials : DialsAre net.dials net'.dials p outer
+  pub lookups : LookupsAre net.lookups net'.lookups p outer
+  pub lookup_plan : net'.lookup_plan ≡ net.lookup_plan
+  pub plan' : PlanStays net net' outer there
+  pub outer' : IsOuterOf net p outer
 
-desk-plan : (net : NetTold) (desk : Option Bool) (dialled' : Bool) → PlanStays net net (desk_outer desk) dialled'
-desk-plan net None dialled' = refl
-desk-plan net (Some logged) dialled' = refl
+pub desk-calls : (net : NetTold) (p : Phase) (desk : Option Bool) (there : Bool) → CallsOut net net p (desk_outer desk) there
+desk-calls net p None there = record { dials = refl; lookups = refl; lookup_plan = refl; plan' = refl; outer' = tt }
+desk-calls net p (Some logged) there = record { dials = refl; lookups = refl; lookup_plan = refl; plan' = refl; outer' = tt }
 
-desk-is-outer : (net : NetTold) (p : Phase) (desk : Option Bool) → IsOuterOf net p (desk_outer desk)
-desk-is-outer net p None = tt
-desk-is-outer net p (Some logged) = tt
-
-abbrev pub talk_acts : List ℕ → Bool → Option Bool → ℕ → Bool → Bool → Option Object → Bool → Acts
-talk_acts x ends desk sent idle full fault unwritten = record {
+abbrev pub speak_acts : List ℕ → Bool → Outer → ℕ → Bool → Bool → Option Object → Bool → Acts
+speak_acts x ends outer sent idle full fault unwritten = record {
   c = x;
   t = [];
   end_c = ends;
   end_t = false;
-  outer = desk_outer desk;
+  outer = outer;
   sent_c = sent;
   sent_t = 0;
   shut_c = false;
@@ -86,8 +87,14 @@ talk_acts x ends desk sent idle full fault unwritten = record {
   unwritten = unwritten;
 }
 
+abbrev pub talk_acts : List ℕ → Bool → Option Bool → ℕ → Bool → Bool → Option Object → Bool → Acts
+talk_acts x ends desk sent idle full fault unwritten = speak_acts x ends (desk_outer desk) sent idle full fault unwritten
+
 abbrev pub talk_event : Hearing → ℕ → ℕ → Acts → NextMark → TurnEvent
 talk_event t worker now acts next = event_of worker (t.party).number now acts next
+
+abbrev pub speak_event : Speaking → ℕ → ℕ → Acts → NextMark → TurnEvent
+speak_event s worker now acts next = event_of worker (s.party).number now acts next
 
 -- ---- the turn
 
@@ -95,19 +102,19 @@ abbrev pub with_state : {L : Type 0} → Assoc L → Record → Assoc L
 with_state a r = record { state = r; client = a.client; target = a.target }
 
 -- all that a turn with a client that talks comes to
-pub record Talked {L : Type 0} (told : L → Told) (counts : L → Counts) (stands : List Line → List StopBy → Type 0) (t : Hearing) (now : ℕ) (a : Assoc L) (next : Next L)
-    (y : List ℕ) (ends : Bool) (desk : Option Bool) (idle full : Bool) (fault : Option Object) (unwritten : Bool) : Type 0 where
+pub record Talked {L : Type 0} (told : L → Told) (counts : L → Counts) (stands : List Line → List StopBy → Type 0) (t : Speaking) (now : ℕ) (a : Assoc L) (next : Next L)
+    (y : List ℕ) (ends : Bool) (outer : Outer) (idle full : Bool) (fault : Option Object) (unwritten : Bool) : Type 0 where
   pub result : TurnResult
-  pub lawful : (worker : ℕ) → turn (context_of t) (talk_event t worker now (talk_acts t.x ends desk (length y) idle full fault unwritten) (mark_of next)) (before t) ≡ Some result
+  pub lawful : (worker : ℕ) → turn (spoken_in t) (speak_event t worker now (speak_acts t.x ends outer (length y) idle full fault unwritten) (mark_of next)) (unspoken t) ≡ Some result
   pub state' : (left_of next).state ≡ result.left
   pub desk' : stands result.h result.marks
   pub goes_on : GoesOn t.users next
-  pub direct' : GoesDirect (basis_of t) (result.left).decisions
+  pub direct' : GoesDirect (spoken_to t) (result.left).decisions
   pub c' : (result.left).c ≡ t.c ++ t.x
   pub sent' : (result.left).sent_c ≡ t.sent ++ y
   pub end_c' : (result.left).end_c ≡ ends
   pub shut_c' : (result.left).shut_c ≡ false
-  pub side : SameTargetSide (before t) result.left
+  pub side : SameTargetSide (unspoken t) result.left
   pub since' : (result.left).since ≡ (t.party).since
   pub number' : (result.left).number ≡ (t.party).number
   pub told' : told (left_of next).client ≡ heard_told (told a.client) t.x y ends
@@ -115,12 +122,12 @@ pub record Talked {L : Type 0} (told : L → Told) (counts : L → Counts) (stan
   pub at_end : ends ≡ true → IsAtEnd (told (left_of next).client)
   pub first : GivesFirst (told (left_of next).client)
   pub behind : Record
-  pub takes : Takes (basis_of t) t.generation (t.config).methods (heard_takings t ends (links idle false) (links full false)) (before t) behind
+  pub takes : Takes (spoken_to t) t.generation (t.config).methods (spoken_takings t ends (links idle false) (links full false)) (unspoken t) behind
   pub open' : Record
-  pub takes_open : Takes (basis_of t) t.generation (t.config).methods (heard_takings t false (links idle false) (links full false)) (before t) open'
-  pub unread_t : reads_target open' (phase (basis_of t) open') ≡ false
-  pub stops_c : StopsReading false ends idle t.x fault (reads_client (basis_of t) (links idle false) (links full false) open' (phase (basis_of t) open') ≡ false)
-  pub talks : ends ≡ true → phase (basis_of t) open' ≡ Phase.Talk
+  pub takes_open : Takes (spoken_to t) t.generation (t.config).methods (spoken_takings t false (links idle false) (links full false)) (unspoken t) open'
+  pub unread_t : reads_target open' (phase (spoken_to t) open') ≡ false
+  pub stops_c : StopsReading false ends idle t.x fault (reads_client (spoken_to t) (links idle false) (links full false) open' (phase (spoken_to t) open') ≡ false)
+  pub talks : ends ≡ true → phase (spoken_to t) open' ≡ Phase.Talk
   pub short : ends ≡ true → length t.x < quantum
   pub idle_c : idle ≡ true → IsIdle (told (left_of next).client) × Rose (counts a.client).idle_reads (counts (left_of next).client).idle_reads
   pub full_c : full ≡ true → IsFull (told (left_of next).client) × Rose (counts a.client).idle_writes (counts (left_of next).client).idle_writes
@@ -139,12 +146,13 @@ stops-as was ends idle part fault P Q f (StopsReading.unread h) = StopsReading.u
 ends-heard : (told : Told) (ends : Bool) → told.ended ≡ ends → (ends ≡ true → IsAtEnd told) → EndsBehind told
 ends-heard told ends is at_end arrival given e1 e2 ended = at_end (sym is ∙ ended) arrival given e1 e2
 
-pub turns-talked : {L : Type 0} (told : L → Told) (counts : L → Counts) (stands : List Line → List StopBy → Type 0) (t : Hearing) (now : ℕ) (net : NetTold) (a : Assoc L) (next : Next L)
-    (y : List ℕ) (ends : Bool) (desk : Option Bool) (idle full : Bool) (fault : Option Object) (unwritten : Bool)
-    → Stands told (basis_of t) (with_state a (before t)) → Talked told counts stands t now a next y ends desk idle full fault unwritten
-    → Turns told counts stands (context_of t) now net net (with_state a (before t)) next
-turns-talked told counts stands t now net a next y ends desk idle full fault unwritten k h = record {
-  acts = talk_acts t.x ends desk (length y) idle full fault unwritten;
+pub turns-called : {L : Type 0} (told : L → Told) (counts : L → Counts) (stands : List Line → List StopBy → Type 0) (t : Speaking) (now : ℕ) (net net' : NetTold) (a : Assoc L) (next : Next L)
+    (y : List ℕ) (ends : Bool) (outer : Outer) (idle full : Bool) (fault : Option Object) (unwritten : Bool)
+    → Stands told (spoken_to t) (with_state a (unspoken t)) → (h : Talked told counts stands t now a next y ends outer idle full fault unwritten)
+    → CallsOut net net' (phase (spoken_to t) h.behind) outer (is_some (reached_at (h.result).left.decisions))
+    → Turns told counts stands (spoken_in t) now net net' (with_state a (unspoken t)) next
+turns-called told counts stands t now net net' a next y ends outer idle full fault unwritten k h calls = record {
+  acts = speak_acts t.x ends outer (length y) idle full fault unwritten;
   result = h.result;
   lawful = h.lawful;
   state' = h.state';
@@ -162,31 +170,32 @@ turns-talked told counts stands t now net a next y ends desk idle full fault unw
   client = client';
   client_ends = ends-heard (told (left_of next).client) ends (client'.ended' ∙ h.end_c') h.at_end;
   client_first = h.first;
-  target = subst (λ (o : Option _). HoldsTarget told (h.result).left o) (sym h.target') (target-same told (before t) (h.result).left a.target h.side k.target);
+  target = subst (λ (o : Option _). HoldsTarget told (h.result).left o) (sym h.target') (target-same told (unspoken t) (h.result).left a.target h.side k.target);
   same_client = subst (λ (z : Told). SameOutside (told a.client) z) (sym h.told') (record { arrived = refl; cap = refl; unfailing = refl });
   same_target = subst (λ (o : Option _). SameTarget told net a.target o) (sym h.target') (same-target told net a.target);
   behind = h.behind;
-  taken' = λ worker. takes-is (basis_of t) t.generation (t.config).methods (talk_event t worker now acts' (mark_of next)) (before t) h.behind h.takes;
-  dials = desk-dials net (phase (basis_of t) h.behind) desk;
-  lookups = record { lookups = refl; plan = refl };
-  plan' = desk-plan net desk _;
-  outer' = desk-is-outer net (phase (basis_of t) h.behind) desk;
+  taken' = λ worker. takes-is (spoken_to t) t.generation (t.config).methods (speak_event t worker now acts' (mark_of next)) (unspoken t) h.behind h.takes;
+  dials = calls.dials;
+  lookups = calls.lookups;
+  lookup_plan = calls.lookup_plan;
+  plan' = calls.plan';
+  outer' = calls.outer';
   stops_c = λ worker. stops-as false ends idle t.x fault _ _ (λ unread. record {
     behind = h.open';
-    taken' = takes-is (basis_of t) t.generation (t.config).methods (talk_event t worker now open_acts (mark_of next)) (before t) h.open' h.takes_open;
+    taken' = takes-is (spoken_to t) t.generation (t.config).methods (speak_event t worker now open_acts (mark_of next)) (unspoken t) h.open' h.takes_open;
     unread' = unread;
   }) h.stops_c;
   stops_t = λ worker. StopsReading.unread (record {
     behind = h.open';
-    taken' = takes-is (basis_of t) t.generation (t.config).methods (talk_event t worker now open_acts (mark_of next)) (before t) h.open' h.takes_open;
+    taken' = takes-is (spoken_to t) t.generation (t.config).methods (speak_event t worker now open_acts (mark_of next)) (unspoken t) h.open' h.takes_open;
     unread' = h.unread_t;
   });
   reads_end_c = λ worker e. record {
     unended = refl;
     below = h.short e;
     behind = h.open';
-    taken' = takes-is (basis_of t) t.generation (t.config).methods (talk_event t worker now open_acts (mark_of next)) (before t) h.open' h.takes_open;
-    reads' = ap (reads_client (basis_of t) (links idle false) (links full false) h.open') (h.talks e);
+    taken' = takes-is (spoken_to t) t.generation (t.config).methods (speak_event t worker now open_acts (mark_of next)) (unspoken t) h.open' h.takes_open;
+    reads' = ap (reads_client (spoken_to t) (links idle false) (links full false) h.open') (h.talks e);
     room = λ relays e1 e2. absurd (not-relay (sym (h.talks e) ∙ relays));
   };
   reads_end_t = λ worker e. absurd (cc);
@@ -199,10 +208,10 @@ turns-talked told counts stands t now net a next y ends desk idle full fault unw
 }
   where
     acts' : Acts
-    acts' = talk_acts t.x ends desk (length y) idle full fault unwritten
+    acts' = speak_acts t.x ends outer (length y) idle full fault unwritten
 
     open_acts : Acts
-    open_acts = talk_acts t.x false desk (length y) idle full fault unwritten
+    open_acts = speak_acts t.x false outer (length y) idle full fault unwritten
 
     client' : Holds (told (left_of next).client) (h.result).left.c (h.result).left.sent_c (h.result).left.end_c (h.result).left.shut_c
     client' =
@@ -215,3 +224,11 @@ turns-talked told counts stands t now net a next y ends desk idle full fault unw
 
     not-relay : Phase.Talk ≡ Phase.Relay → ⊥
     not-relay e = cc
+
+-- a turn that asks nobody but the desk
+pub turns-talked : {L : Type 0} (told : L → Told) (counts : L → Counts) (stands : List Line → List StopBy → Type 0) (t : Hearing) (now : ℕ) (net : NetTold) (a : Assoc L) (next : Next L)
+    (y : List ℕ) (ends : Bool) (desk : Option Bool) (idle full : Bool) (fault : Option Object) (unwritten : Bool)
+    → Stands told (basis_of t) (with_state a (before t)) → Talked told counts stands (speaking t) now a next y ends (desk_outer desk) idle full fault unwritten
+    → Turns told counts stands (context_of t) now net net (with_state a (before t)) next
+turns-talked told counts stands t now net a next y ends desk idle full fault unwritten k h =
+    turns-called told counts stands (speaking t) now net net a next y ends (desk_outer desk) idle full fault unwritten k h (desk-calls net _ desk _)

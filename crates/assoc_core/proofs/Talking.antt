@@ -8,7 +8,7 @@ use Rattle.conf_model.specs.declared.protocol.Method.{Method}
 use Rattle.conf_model.specs.declared.route.Route.{Route}
 use Rattle.conf_model.specs.declared.route.Via.{Via}
 use Rattle.conf_model.specs.declared.user.User.{User}
-use Rattle.conf_model.specs.Handshake.{Request, Split}
+use Rattle.conf_model.specs.Handshake.{Split}
 use Rattle.handshake_core.specs.Taking.{refusal_of}
 use Rattle.rule_list.specs.Rules.{numbered}
 use Rattle.socks_machine.specs.declared.cause.Cause.{Cause}
@@ -31,7 +31,7 @@ use Rattle.socks_machine.specs.View.{view}
 use Rattle.assoc_core.specs.Plain.{HasChosen, split_by, split_in, opening_owed}
 use Rattle.assoc_core.specs.Turns.{context}
 use Rattle.assoc_core.proofs.Choosing.{has-chosen-after, chosen-still}
-use Rattle.assoc_core.proofs.PlainRecords.{talk-phase, judging-phase}
+use Rattle.assoc_core.proofs.PlainRecords.{talk-phase}
 
 -- ---- the records
 
@@ -65,6 +65,40 @@ talker p c sent_c end_c chosen ds cause = record {
   at_close = None;
   done = false;
 }
+
+-- a turn that takes x of a client, which has said c and for which this was decided, and nothing else
+pub record Speaking : Type 0 where
+  pub users : List User
+  pub pubs : List Config
+  pub generation : ℕ
+  pub config : Config
+  pub most : ℕ
+  pub h : List Line
+  pub marks : List StopBy
+  pub party : Party
+  pub ds : List Decision
+  pub c : List ℕ
+  pub x : List ℕ
+  pub sent : List ℕ
+  pub chosen : Option Chosen
+
+abbrev pub spoken_to : Speaking → Basis
+spoken_to s = socks s.users s.pubs
+
+abbrev pub spoken_in : Speaking → Context
+spoken_in s = context s.users s.pubs s.generation s.config s.most s.h s.marks
+
+abbrev pub unspoken : Speaking → Record
+unspoken s = talker s.party s.c s.sent false s.chosen s.ds None
+
+abbrev pub chosen_behind : Speaking → Option Chosen
+chosen_behind s = chosen_after s.generation (s.config).methods s.chosen (s.c ++ s.x)
+
+abbrev pub spoken : Speaking → Record
+spoken s = talker s.party (s.c ++ s.x) s.sent false (chosen_behind s) s.ds None
+
+abbrev pub spoken_takings : Speaking → Bool → List Object → List Object → Takings
+spoken_takings s ends idle full = record { c = s.x; t = []; end_c = ends; end_t = false; grams = []; came = None; sent_u = 0; idle = idle; full = full }
 
 -- a turn that hears x of a client, which has said c
 pub record Hearing : Type 0 where
@@ -101,6 +135,23 @@ let_in t = Decision.Opened t.g t.rule None ∷ []
 
 abbrev pub before : Hearing → Record
 before t = talker t.party t.c t.sent false t.chosen (let_in t) None
+
+abbrev pub speaking : Hearing → Speaking
+speaking t = record {
+  users = t.users;
+  pubs = t.pubs;
+  generation = t.generation;
+  config = t.config;
+  most = t.most;
+  h = t.h;
+  marks = t.marks;
+  party = t.party;
+  ds = let_in t;
+  c = t.c;
+  x = t.x;
+  sent = t.sent;
+  chosen = t.chosen;
+}
 
 abbrev pub answered : Hearing → Option Chosen
 answered t = chosen_after t.generation (t.config).methods t.chosen (t.c ++ t.x)
@@ -226,11 +277,3 @@ refused-something t cause h none = absurd (clash (ap (λ (r : Record). split_in 
   where
     clash : split_in t.users (before t) ≡ split_heard t → ⊥
     clash e = let k : refusal_of Split.More ≡ Some cause = ap refusal_of (sym t.more ∙ e) ∙ h in cc
-
--- ---- a whole prelude
-
-pub phase-whole : (t : Hearing) (q : Request) (n : ℕ) → split_heard t ≡ Split.Whole q n → phase (basis_of t) (heard t) ≡ Phase.Judging q
-phase-whole t q n whole = judging-phase t.users t.pubs (heard t) t.g t.rule q n refl refl t.served whole
-
-pub settled-whole : (t : Hearing) (q : Request) (n : ℕ) → split_heard t ≡ Split.Whole q n → settled (basis_of t) (heard t) ≡ heard t
-settled-whole t q n whole = ap (λ p. fix (cause_in (basis_of t) (heard t) p) (heard t)) (phase-whole t q n whole)

@@ -36,7 +36,7 @@ use Rattle.assoc_core.specs.Sending.{Sends, SendEnds}
 use Rattle.assoc_core.specs.Stands.{GivesFirst}
 use Rattle.assoc_core.specs.Turns.{Turns, StopsReading, links, context}
 use Rattle.assoc_core.proofs.Answering.{all-owed, nothing-left, or-true, still-left, told-sent, with_link}
-use Rattle.assoc_core.proofs.GrantTurns.{pending-middle}
+use Rattle.assoc_core.proofs.AskTurns.{pending-middle}
 use Rattle.assoc_core.proofs.HeardTurns.{Fits, hearing_of, behind-is, heard-as, stands-before, turns-before, owes_now, owes-caused, plain-caused, first-sent}
 use Rattle.assoc_core.proofs.LinksHeld.{short}
 use Rattle.assoc_core.proofs.PlainRecords.{closing-phase}
@@ -98,7 +98,7 @@ pub record Away {L : Type 0} (told : L → Told) (counts : L → Counts) (t : He
   pub ends : SendEnds (told client) (counts b.client) (counts client) rest outcome
 
 away : {L : Type 0} (told : L → Told) (counts : L → Counts) (users : List User) (pubs : List Config) (generation : ℕ) (config : Config) (most : ℕ) (h : List Line) (marks : List StopBy)
-    (a b : Assoc L) (client : L) (s : Record) (cause : Cause) (outcome : Sent) (k : HasHeard told counts (socks users pubs) generation config a b (IsRefused cause))
+    (a b : Assoc L) (client : L) (s : Record) (cause : Cause) (outcome : Sent) (k : HasHeard told counts (socks users pubs) generation config a b None (IsRefused cause))
     → s ≡ (let r = b.state in record r { sent_c = s.sent_c; cause = Some cause })
     → Sends (told b.client) (told client) (counts b.client) (counts client) (b.state).sent_c s.sent_c (drop (length (b.state).sent_c) (owed_c (let r = b.state in record r { cause = Some cause }))) outcome
     → Away told counts (hearing_of told counts users pubs generation config most h marks a b (IsRefused cause) k) a b client s cause outcome
@@ -154,7 +154,7 @@ pub data Closes {L : Type 0} (told : L → Told) (counts : L → Counts) (b : As
 
 pub turns-away : {L : Type 0} (told : L → Told) (counts : L → Counts) (stands : List Line → List StopBy → Type 0) (users : List User) (pubs : List Config) (generation : ℕ) (config : Config) (most : ℕ) (h : List Line) (marks : List StopBy)
     (now : ℕ) (net : NetTold) (a b : Assoc L) (client : L) (s : Record) (e : Ended L) (cause : Cause) (failed : Bool) (outcome : Sent)
-    → HasHeard told counts (socks users pubs) generation config a b (IsRefused cause) → (a.state).since ≡ now
+    → HasHeard told counts (socks users pubs) generation config a b None (IsRefused cause) → (a.state).since ≡ now
     → s ≡ (let r = b.state in record r { sent_c = s.sent_c; cause = Some cause })
     → Sends (told b.client) (told client) (counts b.client) (counts client) (b.state).sent_c s.sent_c (drop (length (b.state).sent_c) (owed_c (let r = b.state in record r { cause = Some cause }))) outcome
     → ((rest : List ℕ) → SendEnds (told client) (counts b.client) (counts client) rest outcome → Closes told counts b client rest failed)
@@ -263,7 +263,7 @@ refusal-rests t cause y rest sent worker refuses fits e1 e2 some =
 
 pub waits-away : {L : Type 0} (told : L → Told) (counts : L → Counts) (stands : List Line → List StopBy → Type 0) (users : List User) (pubs : List Config) (generation : ℕ) (config : Config) (most : ℕ) (h : List Line) (marks : List StopBy)
     (now : ℕ) (net : NetTold) (a b : Assoc L) (client : L) (s : Record) (cause : Cause)
-    → HasHeard told counts (socks users pubs) generation config a b (IsRefused cause) → (a.state).since ≡ now → stands h marks
+    → HasHeard told counts (socks users pubs) generation config a b None (IsRefused cause) → (a.state).since ≡ now → stands h marks
     → s ≡ (let r = b.state in record r { sent_c = s.sent_c; cause = Some cause })
     → Sends (told b.client) (told client) (counts b.client) (counts client) (b.state).sent_c s.sent_c (drop (length (b.state).sent_c) (owed_c (let r = b.state in record r { cause = Some cause }))) Sent.Full
     → Turns told counts stands (context users pubs generation config most h marks) now net net a (Next.Wait (with_link b s client))

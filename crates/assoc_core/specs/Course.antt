@@ -1,11 +1,12 @@
--- How far an association has come, by its decisions.
+-- How far an association has come that has no cause, by its decisions.
 use Rattle.std.specs.Prelude.{List, [], ◌∷◌}
 use Rattle.socks_machine.specs.declared.record.Decision.{Decision}
 use Rattle.assoc_core.specs.declared.one_turn.Course.{Course}
 
-abbrev pub IsCourse : List Decision → Course → Type 0
-IsCourse [] Course.Accept = Unit {0}
-IsCourse (d ∷ []) Course.Talk = Unit {0}
-IsCourse (d ∷ e ∷ []) Course.Reach = Unit {0}
-IsCourse (d ∷ e ∷ f ∷ ds) Course.Relay = Unit {0}
-IsCourse _ _ = ⊥
+abbrev pub course_of : List Decision → Course
+course_of [] = Course.Accept
+course_of (d ∷ []) = Course.Talk
+course_of (d ∷ Decision.Looked name found ∷ []) = Course.Judge
+course_of (d ∷ Decision.Looked name found ∷ e ∷ []) = Course.Reach
+course_of (d ∷ e ∷ []) = Course.Reach
+course_of (d ∷ e ∷ f ∷ ds) = Course.Relay

@@ -1,5 +1,5 @@
 -- What a client says until its prelude is whole or refused.
-use Rattle.std.specs.Prelude.{ℕ, ◌≡◌, ◌<◌, Bool, true, false, ◌||◌, Option, Some, None, List, [], ◌∷◌, ◌++◌, length}
+use Rattle.std.specs.Prelude.{ℕ, ◌≡◌, ◌<◌, Bool, true, false, ◌||◌, Option, Some, None, List, [], ◌∷◌, ◌++◌, length, is_some}
 use Rattle.conf_model.specs.declared.config.Config.{Config}
 use Rattle.conf_model.specs.declared.protocol.Method.{Method}
 use Rattle.conf_model.specs.Handshake.{Split}
@@ -16,7 +16,7 @@ use Rattle.socks_machine.specs.Taking.{with_client_bytes}
 use Rattle.socks_machine.specs.Turn.{quantum}
 use Rattle.assoc_core.specs.declared.assoc.Assoc.{Assoc}
 use Rattle.assoc_core.specs.declared.hear.Heard.{Heard}
-use Rattle.assoc_core.specs.Plain.{split_in, method_alone}
+use Rattle.assoc_core.specs.Plain.{Sought, behind_lookup, split_in, method_alone}
 use Rattle.assoc_core.specs.Stands.{Stands, TellsServed, GivesFirst}
 use Rattle.assoc_core.specs.Turns.{IsIdle}
 
@@ -52,17 +52,18 @@ pub record Hears (old new : Told) (counts counts' : Counts) (before after : List
   pub later : Later counts counts'
   pub ends : HearingEnds new counts counts' heard
 
--- b is a with what was heard of its client, which was let in and had no cause
-pub record HasHeard {L : Type 0} (told : L → Told) (counts : L → Counts) (basis : Basis) (generation : ℕ) (config : Config) (a b : Assoc L) (heard : Heard) : Type 0 where
+-- b is a with what was heard of its client, which was let in and had no cause; nothing is heard where its name was looked up
+pub record HasHeard {L : Type 0} (told : L → Told) (counts : L → Counts) (basis : Basis) (generation : ℕ) (config : Config) (a b : Assoc L) (sought : Option Sought) (heard : Heard) : Type 0 where
   pub stands : Stands told basis a
   pub served : TellsServed basis.users (told a.client)
   pub published : numbered basis.pubs generation ≡ Some config
   pub plain : IsPlain config
   pub generation' : ℕ
   pub rule : Option ℕ
-  pub opened' : (a.state).decisions ≡ Decision.Opened generation' rule None ∷ []
+  pub opened' : (a.state).decisions ≡ Decision.Opened generation' rule None ∷ behind_lookup sought []
   pub uncaused : (a.state).cause ≡ None
   pub hears : Hears (told a.client) (told b.client) (counts a.client) (counts b.client) (a.state).c (b.state).c heard
+  pub quiet : is_some sought ≡ true → hears.bytes ≡ []
   pub state' : b.state ≡ with_client_bytes generation config.methods hears.bytes a.state
   pub heard' : HeardAs (split_in basis.users b.state) heard
   pub target' : b.target ≡ a.target

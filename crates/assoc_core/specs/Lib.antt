@@ -8,6 +8,7 @@ pub mod Lines
 pub mod Plain
 pub mod Reaching
 pub mod Reads
+pub mod Seeking
 pub mod Sending
 pub mod Stands
 pub mod Turns

@@ -1,7 +1,7 @@
--- The records that are served: a CONNECT to an address by its number, and no datagrams; and what they owe, in closed form,
--- where no proxy is used.
+-- The records that are served: a CONNECT, and no datagrams; and what they owe, in closed form, where no proxy is used.
 use Rattle.std.specs.Prelude.{ℕ, ◌≡◌, Bool, true, false, ◌&&◌, not, ◌==◌, if◌then◌else◌, Option, Some, None, option_map, List, [], ◌∷◌, ◌++◌, drop, is_some}
 use mathlib.Core.List.{IsPrefix}
+use Rattle.addr_pattern.specs.declared.addr.Addr.{Addr}
 use Rattle.addr_pattern.specs.declared.endpoint.Endpoint.{Endpoint}
 use Rattle.conf_model.specs.declared.protocol.Command.{Command}
 use Rattle.conf_model.specs.declared.protocol.Method.{Method}
@@ -12,6 +12,7 @@ use Rattle.socks_machine.specs.declared.cause.Cause.{Cause}
 use Rattle.socks_machine.specs.declared.record.Chosen.{Chosen}
 use Rattle.socks_machine.specs.declared.record.Decision.{Decision}
 use Rattle.socks_machine.specs.declared.record.Record.{Record}
+use Rattle.socks_machine.specs.Calls.{name_of}
 use Rattle.socks_machine.specs.Decisions.{reached_at}
 use Rattle.socks_machine.specs.Replies.{RefusedAt, refusal, choose}
 use Rattle.socks_machine.specs.Inputs.{is_served_split}
@@ -28,6 +29,11 @@ split_by users chosen c = split users (option_map (λ c. c.method) chosen) c
 -- how far the client's input has come
 abbrev pub split_in : List User → Record → Split
 split_in users r = split_by users r.chosen r.c
+
+-- the method that was answered to the greeting; any where there was none (SOCKS 4)
+abbrev pub method_asked : Option Chosen → ℕ
+method_asked None = 0
+method_asked (Some chosen) = chosen.method
 
 -- a method with this code, if there is one
 abbrev pub method_alone : ℕ → List Method
@@ -111,17 +117,27 @@ pub record HasAsked (users : List User) (r : Record) : Type 0 where
   pub len : ℕ
   pub whole : split_in users r ≡ Split.Whole request len
 
--- a request that was judged
-pub record Judged (users : List User) (r : Record) (facts : Facts) (refused : Option Cause) : Type 0 where
+-- a request to a name that was looked up
+pub record LookedUp (users : List User) (r : Record) (name : List ℕ) (found : Option Addr) : Type 0 where
   pub untargeted : Untargeted r
   pub asked : HasAsked users r
+  pub named : name_of (asked.request).host ≡ Some name
+  pub unended : r.end_c ≡ false
+  pub stands : found ≡ None → is_some r.cause ≡ true
+
+-- a request to that name, or to an address, that was judged
+pub record Judged (users : List User) (r : Record) (name : Option (List ℕ)) (facts : Facts) (refused : Option Cause) : Type 0 where
+  pub untargeted : Untargeted r
+  pub asked : HasAsked users r
+  pub named : name_of (asked.request).host ≡ name
   pub command : facts.command ≡ Command.Connect
   pub unended : r.end_c ≡ false
   pub stands : is_some refused ≡ true → is_some r.cause ≡ true
 
--- a destination that was dialled
-pub record Dialled (users : List User) (r : Record) (facts : Facts) (at : Option Endpoint) : Type 0 where
+-- a destination that was dialled, for a request to that name, or to an address
+pub record Dialled (users : List User) (r : Record) (name : Option (List ℕ)) (facts : Facts) (at : Option Endpoint) : Type 0 where
   pub asked : HasAsked users r
+  pub named : name_of (asked.request).host ≡ name
   pub command : facts.command ≡ Command.Connect
   pub unreached : at ≡ None → Untargeted r
   pub failed : at ≡ None → is_some r.cause ≡ true
@@ -129,11 +145,31 @@ pub record Dialled (users : List User) (r : Record) (facts : Facts) (at : Option
   pub shut_c : r.shut_c ≡ true → (r.end_t ≡ true) × (r.sent_c ≡ owed_c r)
   pub shut_t : r.shut_t ≡ true → (r.end_c ≡ true) × (r.sent_t ≡ owed_t r)
 
+-- a name that was looked up, and its address
+pub record Sought : Type 0 where
+  pub name : List ℕ
+  pub addr : Addr
+
+-- the decisions behind the lookup, where there was one
+abbrev pub behind_lookup : Option Sought → List Decision → List Decision
+behind_lookup None ds = ds
+behind_lookup (Some x) ds = Decision.Looked x.name (Some x.addr) ∷ ds
+
+abbrev pub name_sought : Option Sought → Option (List ℕ)
+name_sought None = None
+name_sought (Some x) = Some x.name
+
 abbrev pub HasDecided : List User → Record → List Decision → Type 0
 HasDecided users r [] = r ≡ fresh r.number r.peer r.local r.since
 HasDecided users r (Decision.Opened g rule None ∷ []) = Talking users r
-HasDecided users r (Decision.Opened g rule None ∷ Decision.Granted g' facts verdict route refused ∷ []) = Judged users r facts refused
-HasDecided users r (Decision.Opened g rule None ∷ Decision.Granted g' facts verdict route None ∷ Decision.Reached to at ∷ []) = Dialled users r facts at
+HasDecided users r (Decision.Opened g rule None ∷ Decision.Looked name found ∷ []) = LookedUp users r name found
+HasDecided users r (Decision.Opened g rule None ∷ Decision.Granted g' facts verdict route refused ∷ []) = Judged users r None facts refused
+HasDecided users r (Decision.Opened g rule None ∷ Decision.Looked name (Some a) ∷ Decision.Granted g' facts verdict route refused ∷ []) =
+    Judged users r (Some name) facts refused
+HasDecided users r (Decision.Opened g rule None ∷ Decision.Granted g' facts verdict route None ∷ Decision.Reached to at ∷ []) =
+    Dialled users r None facts at
+HasDecided users r (Decision.Opened g rule None ∷ Decision.Looked name (Some a) ∷ Decision.Granted g' facts verdict route None ∷ Decision.Reached to at ∷ []) =
+    Dialled users r (Some name) facts at
 HasDecided users r _ = ⊥
 
 -- a record that is served and hasn't ended

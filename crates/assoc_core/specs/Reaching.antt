@@ -6,27 +6,18 @@ use Rattle.net_ends.specs.Counts.{Counts, Later, Rose}
 use Rattle.net_ends.specs.Told.{Told, IsFresh, more}
 use Rattle.rule_list.specs.declared.facts.Facts.{Facts}
 use Rattle.rule_list.specs.declared.verdict.Verdict.{Verdict}
-use Rattle.socks_machine.specs.declared.cause.Cause.{Cause}
 use Rattle.socks_machine.specs.declared.cause.StopBy.{StopBy}
 use Rattle.socks_machine.specs.declared.lines.Line.{Line}
 use Rattle.socks_machine.specs.declared.record.Decision.{Decision}
 use Rattle.socks_machine.specs.Basis.{Basis}
 use Rattle.assoc_core.specs.declared.assoc.Assoc.{Assoc}
-use Rattle.assoc_core.specs.Plain.{owed_c}
+use Rattle.assoc_core.specs.Plain.{Sought, behind_lookup, owed_c}
 use Rattle.assoc_core.specs.Stands.{Stands}
 use Rattle.assoc_core.specs.Turns.{IsFull}
 
 abbrev pub at_of : DialOutcome → Option Endpoint
 at_of (DialOutcome.CameUp local) = Some local
 at_of _ = None
-
--- why a dial that didn't come up ends the association
-abbrev pub cause_of : DialOutcome → Option Cause
-cause_of (DialOutcome.CameUp local) = None
-cause_of DialOutcome.WasRefused = Some Cause.Refused
-cause_of DialOutcome.NoHost = Some Cause.HostUnreachable
-cause_of DialOutcome.NoNet = Some Cause.NetUnreachable
-cause_of DialOutcome.Fault = Some Cause.NetFault
 
 -- the desk wasn't asked
 abbrev pub SameDesk : List Line → List StopBy → List Line → List StopBy → Type 0
@@ -37,11 +28,12 @@ pub record HasDialled {L : Type 0} (told : L → Told) (basis : Basis) (net net'
   pub stands : Stands told basis a
   pub g : ℕ
   pub rule : Option ℕ
+  pub sought : Option Sought
   pub g' : ℕ
   pub facts : Facts
   pub verdict : Verdict
   pub route : Option ℕ
-  pub granted' : (a.state).decisions ≡ Decision.Opened g rule None ∷ Decision.Granted g' facts verdict route None ∷ []
+  pub granted' : (a.state).decisions ≡ Decision.Opened g rule None ∷ behind_lookup sought (Decision.Granted g' facts verdict route None ∷ [])
   pub uncaused : (a.state).cause ≡ None
   pub since : (a.state).since ≡ now
   pub state' : b.state ≡ (let r = a.state in record r { since = now; decisions = r.decisions ++ Decision.Reached facts.to (at_of outcome) ∷ [] })

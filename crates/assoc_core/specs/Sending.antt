@@ -1,9 +1,14 @@
 -- What a sending of pending bytes comes to.
-use Rattle.std.specs.Prelude.{ℕ, ◌≡◌, ◌<◌, false, List, [], ◌++◌, length}
+use Rattle.std.specs.Prelude.{ℕ, ◌≡◌, ◌<◌, Bool, true, false, Option, Some, List, [], ◌++◌, drop, length}
 use Rattle.net_ends.specs.Counts.{Counts, Later, Rose}
 use Rattle.net_ends.specs.Told.{Told, more}
+use Rattle.socks_machine.specs.declared.cause.Cause.{Cause}
+use Rattle.socks_machine.specs.Settle.{first_cause}
+use Rattle.assoc_core.specs.declared.assoc.Assoc.{Assoc}
+use Rattle.assoc_core.specs.declared.assoc.Next.{Next}
 use Rattle.assoc_core.specs.declared.send.Sent.{Sent}
 use Rattle.assoc_core.specs.declared.send.Sent.TheVariants.{All, Full, Failed}
+use Rattle.assoc_core.specs.Plain.{owed_c}
 use Rattle.assoc_core.specs.Turns.{IsFull}
 
 -- why nothing more was sent of the bytes, of which these are left
@@ -21,3 +26,30 @@ pub record Sends (old new : Told) (counts counts' : Counts) (before after pendin
   pub told' : new ≡ record old { taken = more old.taken bytes }
   pub later : Later counts counts'
   pub ends : SendEnds new counts counts' rest outcome
+
+-- ---- behind an outer call
+
+abbrev pub is_full : Sent → Bool
+is_full Full = true
+is_full _ = false
+
+abbrev pub is_failed : Sent → Bool
+is_failed Failed = true
+is_failed _ = false
+
+-- the cause that stands behind a write to the client
+abbrev pub with_failure : Bool → Option Cause → Option Cause
+with_failure true cause = first_cause (Some Cause.ClientFault) cause
+with_failure false cause = cause
+
+-- what is pending was written to the client, and the turn is to be gone on with
+pub record WritesOn {L : Type 0} (told : L → Told) (counts : L → Counts) (b : Assoc L) (next : Next L) : Type 0 where
+  pub client : L
+  pub sent : List ℕ
+  pub outcome : Sent
+  pub sends : Sends (told b.client) (told client) (counts b.client) (counts client) (b.state).sent_c sent (drop (length (b.state).sent_c) (owed_c b.state)) outcome
+  pub next' : next ≡ Next.Again (record {
+    state = (let r = b.state in record r { sent_c = sent; cause = with_failure (is_failed outcome) r.cause });
+    client = client;
+    target = b.target;
+  })

@@ -4,7 +4,8 @@ use Rattle.conf_model.specs.declared.config.Config.{Config}
 use Rattle.conf_model.specs.declared.protocol.Command.{Command}
 use Rattle.conf_model.specs.declared.user.User.{User}
 use Rattle.net_ends.specs.Counts.{Counts, Rose}
-use Rattle.net_ends.specs.Nets.{Dial, DialOutcome, NetTold, Plan, SameLookups, dialled}
+use Rattle.net_ends.specs.declared.net.Lookup.{Lookup}
+use Rattle.net_ends.specs.Nets.{Dial, DialOutcome, LookedUp, NetTold, Plan, dialled, looked_up}
 use Rattle.net_ends.specs.Told.{Told, Arrival}
 use Rattle.socks_machine.specs.declared.cause.StopBy.{StopBy}
 use Rattle.socks_machine.specs.declared.lines.Line.{Line}
@@ -127,10 +128,17 @@ outer_of DialOutcome.NoHost = Outer.HostUnreachable
 outer_of DialOutcome.NoNet = Outer.NetUnreachable
 outer_of DialOutcome.Fault = Outer.Failed
 
--- the outer call is the desk's, or a dial that came out as the net planned it
+-- the outcome of a lookup as the event has it
+abbrev pub looked_as : Lookup → Outer
+looked_as (Lookup.Found addr) = Outer.Looked (Some addr)
+looked_as Lookup.NotFound = Outer.Looked None
+looked_as Lookup.Failed = Outer.Failed
+
+-- the outer call is the desk's, or a lookup or a dial that came out as the net planned it
 abbrev pub IsOuterOf : NetTold → Phase → Outer → Type 0
 IsOuterOf net p Outer.Nothing = Unit {0}
 IsOuterOf net p (Outer.Desk logged) = Unit {0}
+IsOuterOf net (Phase.Seek name) outer = (plan : Lookup) → net.lookup_plan ≡ Some plan → outer ≡ looked_as plan
 IsOuterOf net (Phase.Reach g) outer = (g.facts.command ≡ Command.Connect) × ((plan : Plan) → net.plan ≡ Some plan → outer ≡ outer_of plan.outcome)
 IsOuterOf net p outer = ⊥
 
@@ -138,8 +146,16 @@ IsOuterOf net p outer = ⊥
 abbrev pub DialsAre : Option (List Dial) → Option (List Dial) → Phase → Outer → Type 0
 DialsAre old new p Outer.Nothing = new ≡ old
 DialsAre old new p (Outer.Desk logged) = new ≡ old
+DialsAre old new (Phase.Seek name) outer = new ≡ old
 DialsAre old new (Phase.Reach g) outer = (outcome : DialOutcome) × (outer ≡ outer_of outcome) × (new ≡ dialled old (record { to = g.facts.to; outcome = outcome }))
 DialsAre old new p outer = ⊥
+
+-- and so of the lookups, of the request's name
+abbrev pub LookupsAre : Option (List LookedUp) → Option (List LookedUp) → Phase → Outer → Type 0
+LookupsAre old new p Outer.Nothing = new ≡ old
+LookupsAre old new p (Outer.Desk logged) = new ≡ old
+LookupsAre old new (Phase.Seek name) outer = (outcome : Lookup) × (outer ≡ looked_as outcome) × (new ≡ looked_up old (record { name = name; outcome = outcome }))
+LookupsAre old new p outer = new ≡ old
 
 -- the plan of the next dial stays as it was, unless a dial came up, and then the target was reached
 abbrev pub PlanStays : NetTold → NetTold → Outer → Bool → Type 0
@@ -217,7 +233,8 @@ pub record Turns {L : Type 0} (told : L → Told) (counts : L → Counts) (stand
   pub behind : Record
   pub taken' : (worker : ℕ) → taken s.basis s.generation (s.config).methods (event_of worker a.state.number now acts (mark_of next)) a.state ≡ Some behind
   pub dials : DialsAre net.dials net'.dials (phase s.basis behind) acts.outer
-  pub lookups : SameLookups net net'
+  pub lookups : LookupsAre net.lookups net'.lookups (phase s.basis behind) acts.outer
+  pub lookup_plan : net'.lookup_plan ≡ net.lookup_plan
   pub plan' : PlanStays net net' acts.outer (is_some (reached_at (result.left).decisions))
   pub outer' : IsOuterOf net (phase s.basis behind) acts.outer
   pub stops_c : (worker : ℕ) → StopsReading a.state.end_c acts.end_c acts.idle_c acts.c acts.fault

@@ -3,13 +3,13 @@ ghost use Rattle.rule_list.specs.Numbers.{FitsNumbers};
 ghost use Rattle.socks_machine.specs.declared.lines.Line.{Line};
 ghost use Rattle.socks_machine.specs.declared.cause.StopBy.{StopBy};
 ghost use Rattle.socks_machine.specs.Calls.{client_rule_of as client_rule_in, socks_rule_of as socks_rule_in};
-ghost use Rattle.addr_pattern.specs.declared.host.Host.TheVariants.{Addr as ByAddr};
 ghost use Rattle.handshake_core.specs.Answers.{request_in};
-ghost use Rattle.socks_machine.specs.Calls.{grant_facts};
+ghost use Rattle.socks_machine.specs.Calls.{destination as destination_in, found_of as found_in, grant_facts, name_of as name_in};
+ghost use Rattle.socks_machine.specs.Decisions.{looked};
 ghost use Rattle.assoc_core.specs.Granting.{AsksGrant, request_line};
 
 use crate::refusals::{blocked, first_cause, refusal_full};
-use addr_pattern::{Addr, Endpoint};
+use addr_pattern::{Addr, Endpoint, Host, Name};
 use conf_model::Config;
 use handshake_core::Request;
 use rule_list::{Facts, Verdict, client_max, first_route, judge, socks_max};
@@ -17,9 +17,42 @@ use session_desk::DeskCall;
 use socks_machine::{Decision, GrantLine, Record};
 use std::alloc::AllocError;
 
-/// What the rules are asked of a request to an address.
-fn facts_of(state: &Record, request: &Request, addr: Addr) -> Facts
-    requires { request.now.host ≡ ByAddr addr }
+/// The address that was looked up.
+fn found_of(decisions: &[Decision]) -> Option<Addr>
+    ensures { result ≡ found_in (looked decisions.now) }
+{
+    match decisions {
+        [] => None,
+        [Decision::Looked { host: _, found }, ..] => *found,
+        [_, rest @ ..] => found_of(rest),
+    }
+}
+
+/// Where a request goes to: its address, or the one that was found for its name.
+fn destination(state: &Record, host: &Host) -> Addr
+    ensures { result ≡ destination_in state.now host.now }
+{
+    match host {
+        Host::Addr(addr) => *addr,
+        Host::Name(_) => match found_of(state.decisions.as_slice()) {
+            Some(addr) => addr,
+            None => Addr::V4(0),
+        },
+    }
+}
+
+/// The name that a request gives.
+fn name_of(host: &Host) -> Option<Name>
+    ensures { result ≡ name_in host.now }
+{
+    match host {
+        Host::Addr(_) => None,
+        Host::Name(name) => Some(name.copy()),
+    }
+}
+
+/// What the rules are asked of a request.
+fn facts_of(state: &Record, request: &Request) -> Facts
     ensures { result ≡ grant_facts state.now (request_in request.now) }
 {
     let user = match &request.user {
@@ -35,10 +68,10 @@ fn facts_of(state: &Record, request: &Request, addr: Addr) -> Facts
         user,
         from: state.peer,
         to: Endpoint {
-            addr,
+            addr: destination(state, &request.host),
             port: request.port,
         },
-        name: None,
+        name: name_of(&request.host),
     }
 }
 
@@ -66,18 +99,11 @@ fn socks_rule_of(verdict: Verdict) -> Option<u32>
 }
 
 /// The line of a request that was judged.
-fn line_of(
-    state: &Record,
-    generation: u64,
-    config: &Config,
-    request: &Request,
-    addr: Addr,
-) -> GrantLine
+fn line_of(state: &Record, generation: u64, config: &Config, request: &Request) -> GrantLine
     requires fits { FitsNumbers config.now }
-    requires host { request.now.host ≡ ByAddr addr }
     ensures { result ≡ request_line generation config.now state.now (request_in request.now) }
 {
-    let facts = facts_of(state, request, addr);
+    let facts = facts_of(state, request);
     let verdict = judge(config, &facts);
     GrantLine {
         number: state.number,
@@ -89,23 +115,22 @@ fn line_of(
     }
 }
 
-/// Judges a request to this address, asks the desk, and decides by both.
+/// Judges a request, asks the desk, and decides by both.
 pub fn ask_grant<K: DeskCall>(
     state: &mut Record,
     generation: u64,
     config: &Config,
     desk: &mut K,
     request: &Request,
-    addr: Addr,
 ) -> Result<(), AllocError>
     requires fits { FitsNumbers config.now }
-    requires host { request.now.host ≡ ByAddr addr }
     ensures cap { K.cap desk.new ≡ K.cap desk.old }
     ensures asks { OnOk result ((h : List Line) (marks : List StopBy) → K.stands desk.old h marks → AsksGrant (K.stands desk.new) h marks generation config.now (request_in request.now) state.old state.new) }
 {
-    let line = line_of(state, generation, config, request, addr);
+    let line = line_of(state, generation, config, request);
     let verdict = line.verdict;
-    let facts = facts_of(state, request, addr);
+    let asked = facts_of(state, request);
+    let facts = facts_of(state, request);
     let route = first_route(config, &facts);
     state.decisions.push(Decision::Granted {
         generation,
@@ -115,10 +140,9 @@ pub fn ask_grant<K: DeskCall>(
         refused: None,
     })?;
     let refused = refusal_full(generation, desk.grant(&line), blocked(generation, verdict));
-    let facts = facts_of(state, request, addr);
     state.decisions.set_last(Decision::Granted {
         generation,
-        facts,
+        facts: asked,
         verdict,
         route,
         refused,

@@ -8,6 +8,7 @@ mod close;
 mod closing;
 mod grant;
 mod hear;
+mod judge;
 mod one_turn;
 mod prelude;
 mod reach;
@@ -15,6 +16,7 @@ mod read;
 mod refusals;
 mod relay;
 mod replies;
+mod seek;
 mod send;
 mod talk;
 

@@ -6,12 +6,13 @@ ghost use Rattle.rule_list.specs.Rules.{numbered};
 ghost use Rattle.socks_machine.specs.declared.cause.StopBy.{StopBy};
 ghost use Rattle.socks_machine.specs.declared.lines.Line.{Line};
 ghost use Rattle.socks_machine.specs.Socks.{socks};
-ghost use Rattle.assoc_core.specs.Course.{IsCourse};
+ghost use Rattle.assoc_core.specs.Course.{course_of as course_in};
 ghost use Rattle.assoc_core.specs.Stands.{Stands, TellsServed};
 ghost use Rattle.assoc_core.specs.Turns.{Turns, context};
 
 use crate::assoc::{Assoc, Next};
-use crate::reach::reach;
+use crate::reach::reach_target;
+use crate::talk::talk;
 use conf_model::Config;
 use net_ends::Net;
 use session_desk::DeskCall;
@@ -24,16 +25,20 @@ use user_login::Users;
 pub enum Course {
     Accept,
     Talk,
+    /// A name was looked up.
+    Judge,
     Reach,
     Relay,
 }
 
 fn course_of(decisions: &[Decision]) -> Course
-    ensures { IsCourse decisions.now result }
+    ensures { result ≡ course_in decisions.now }
 {
     match decisions {
         [] => Course::Accept,
         [_] => Course::Talk,
+        [_, Decision::Looked { .. }] => Course::Judge,
+        [_, Decision::Looked { .. }, _] => Course::Reach,
         [_, _] => Course::Reach,
         [_, _, _, ..] => Course::Relay,
     }
@@ -67,8 +72,9 @@ where
     }
     match course_of(a.state.decisions.as_slice()) {
         Course::Accept => a.accept(generation, config, desk),
-        Course::Talk => a.talk(alloc, generation, config, users, desk),
-        Course::Reach => reach(a, alloc, now, net),
+        Course::Talk => talk(a, alloc, generation, config, users, desk, net),
+        Course::Judge => a.judge(alloc, generation, config, users, desk),
+        Course::Reach => reach_target(a, alloc, now, net),
         Course::Relay => a.relay(alloc, desk),
     }
 }

@@ -10,8 +10,9 @@ ghost use Rattle.socks_machine.specs.declared.cause.StopBy.{StopBy};
 ghost use Rattle.socks_machine.specs.declared.record.Decision.{Decision};
 ghost use Rattle.socks_machine.specs.Decisions.{granted};
 ghost use Rattle.socks_machine.specs.Socks.{socks};
-ghost use Rattle.assoc_core.specs.Reaching.{HasDialled, IsNewLink, HasGreeted, SameDesk, cause_of};
-ghost use Rattle.assoc_core.specs.Plain.{prelude_of};
+ghost use Rattle.connect_core.specs.Reaching.{cause_of};
+ghost use Rattle.assoc_core.specs.Reaching.{HasDialled, IsNewLink, HasGreeted, SameDesk};
+ghost use Rattle.assoc_core.specs.Plain.{Sought, behind_lookup, prelude_of};
 ghost use Rattle.assoc_core.specs.Sending.{Sends};
 ghost use Rattle.assoc_core.specs.Stands.{Stands};
 ghost use Rattle.assoc_core.specs.Turns.{Turns, context};
@@ -23,7 +24,8 @@ use crate::relay::behind;
 use crate::send::{Sent, send_pending};
 use crate::talk::send_to_client;
 use addr_pattern::Endpoint;
-use net_ends::{Dialing, Link, Net};
+use connect_core::{Reached, reach};
+use net_ends::{Link, Net};
 use socks_machine::{Cause, Decision, Record};
 use std::alloc::{AllocError, Global};
 
@@ -94,19 +96,12 @@ impl<L: Link + Drop> Assoc<L> {
         ensures { IfOk result (λ next. (users : List User) (pubs : List Config) (generation : ℕ) (config : Config) (cap : ℕ) (h : List Line) (marks : List StopBy) (net net' : NetTold) (now : ℕ) (a : Assoc L) (outcome : DialOutcome) → HasDialled L.told (socks users pubs) net net' now a self outcome → cause_of outcome ≡ Some cause → Turns L.told L.counts (SameDesk h marks) (context users pubs generation config cap h marks) now net net' a next) }
     {
         self.state.cause = first_cause(Some(cause), self.state.cause);
-        match send_to_client(alloc, &mut self.state, &mut self.client)? {
-            Sent::All => Ok(Next::Again(self)),
-            Sent::Full => Ok(Next::Again(self)),
-            Sent::Failed => {
-                self.state.cause = first_cause(Some(Cause::ClientFault), self.state.cause);
-                Ok(Next::Again(self))
-            }
-        }
+        self.write_on(alloc)
     }
 }
 
 /// Dials the granted destination. `now` is in seconds.
-pub(crate) fn reach<N: Net>(
+pub(crate) fn reach_target<N: Net>(
     mut assoc: Assoc<N::Link>,
     alloc: Global,
     now: u64,
@@ -114,7 +109,7 @@ pub(crate) fn reach<N: Net>(
 ) -> Result<Next<N::Link>, AllocError>
 where
     N::Link: Drop,
-    ensures { IfOk result (λ next. (users : List User) (pubs : List Config) (generation : ℕ) (config : Config) (cap : ℕ) (h : List Line) (marks : List StopBy) (g g' : ℕ) (rule : Option ℕ) (facts : Facts) (verdict : Verdict) (route : Option ℕ) → Stands N.Link.told (socks users pubs) assoc → assoc.state.since ≡ now → assoc.state.cause ≡ None → assoc.state.decisions ≡ Decision.Opened g rule None ∷ Decision.Granted g' facts verdict route None ∷ [] → Turns N.Link.told N.Link.counts (SameDesk h marks) (context users pubs generation config cap h marks) now (N.told net.old) (N.told net.new) assoc next) }
+    ensures { IfOk result (λ next. (users : List User) (pubs : List Config) (generation : ℕ) (config : Config) (cap : ℕ) (h : List Line) (marks : List StopBy) (g g' : ℕ) (rule : Option ℕ) (sought : Option Sought) (facts : Facts) (verdict : Verdict) (route : Option ℕ) → Stands N.Link.told (socks users pubs) assoc → assoc.state.since ≡ now → assoc.state.cause ≡ None → assoc.state.decisions ≡ Decision.Opened g rule None ∷ behind_lookup sought (Decision.Granted g' facts verdict route None ∷ []) → Turns N.Link.told N.Link.counts (SameDesk h marks) (context users pubs generation config cap h marks) now (N.told net.old) (N.told net.new) assoc next) }
 {
     let Some(to) = granted_to(assoc.state.decisions.as_slice()) else {
         // Nothing was granted: nothing is dialled.
@@ -124,16 +119,13 @@ where
         .state
         .decisions
         .push(Decision::Reached { to, at: None })?;
-    match net.dial(to) {
-        Dialing::Up { link, local } => {
+    match reach(net, to) {
+        Reached::Up { link, local } => {
             let at = Some(local);
             assoc.state.decisions.set_last(Decision::Reached { to, at });
             assoc.state.since = now;
             assoc.greet(alloc, link)
         }
-        Dialing::Refused => assoc.refuse(alloc, Cause::Refused),
-        Dialing::HostUnreachable => assoc.refuse(alloc, Cause::HostUnreachable),
-        Dialing::NetUnreachable => assoc.refuse(alloc, Cause::NetUnreachable),
-        Dialing::Failed => assoc.refuse(alloc, Cause::NetFault),
+        Reached::Failed(cause) => assoc.refuse(alloc, cause),
     }
 }
