@@ -1,13 +1,9 @@
 -- One association's part is changed.
-use Rattle.std.proofs.Common.{◌≡◌, ◌<◌, ◌+◌, ◌-◌, ℕ, Bool, true, false, not, ◌&&◌, nat_le, List, ◌++◌, length, Option, Some, slice_get, slice_set, sym, ap, ◌∙◌, refl, arith, add-one, length-append}
-use Rattle.std.proofs.lemmas.Bool.Decides.{nat_tests}
+use Rattle.std.proofs.Common.{◌≡◌, ◌+◌, ◌-◌, ℕ, Bool, List, Option, Some, slice_get, slice_set, sym, ap, ◌∙◌, arith, add-one}
 use Rattle.std.proofs.lemmas.List.{set-set}
-use Rattle.conf_model.specs.declared.user.User.{User}
-use Rattle.conf_model.specs.Handshake.{split}
-use Rattle.socks_machine.specs.Inputs.{is_served_split}
 use Rattle.replay_script.specs.declared.state.Side.{Side}
 use Rattle.replay_script.specs.declared.state.State.{State}
-use Rattle.replay_script.specs.Conditions.{may_send, side_of, with_side, on_side}
+use Rattle.replay_script.specs.Conditions.{side_of, with_side, on_side}
 
 pub side_is : (s : State) (n at : ℕ) (side : Side) → n ≡ at + 1 → slice_get s.sides at ≡ Some side → side_of s n ≡ Some side
 side_is s n at side is got = ap (λ (z : ℕ). side_of s z) (is ∙ add-one at) ∙ got
@@ -22,18 +18,3 @@ changed s n at change side gap mid new is got mid_is new_is =
     let p : n - 1 ≡ at = omega arith in
     ap (λ (z : List Side). let t : State = record s { sides = z } in t) (e ∙ ap (λ (z : ℕ). slice_set s.sides z (change side)) (sym p))
     ∙ ap (λ (z : Option Side). with_side s n change z) (sym (side_is s n at side is got))
-
--- ---- a client's bytes
-
--- bytes past the limit are not served
-pub too_long : (users : List User) (side : Side) (bytes : List ℕ) → 65535 < length side.c + length bytes → may_send users bytes side ≡ false
-too_long users side bytes h =
-    let e = length-append side.c bytes in
-    let long : nat_le (length (side.c ++ bytes)) 65535 ≡ false = grind (arith, nat_tests, e, h) in
-    none (not side.end_c) (is_served_split (split users (Some 0) (side.c ++ bytes))) (is_served_split (split users (Some 2) (side.c ++ bytes))) (nat_le (length (side.c ++ bytes)) 65535) long
-  where
-    none : (a b d e : Bool) → e ≡ false → (a && (b && (d && e))) ≡ false
-    none true true true e h = h
-    none true true false e h = refl
-    none true false d e h = refl
-    none false b d e h = refl

@@ -1,13 +1,16 @@
 -- A text spells at most one line.
-use Rattle.std.proofs.Common.{◌≡◌, ◌≢◌, ◌<◌, ◌≤◌, ◌^◌, ℕ, true, List, [], ◌∷◌, ◌++◌, ◌⊎◌, inl, inr, codes, get_or, sym, subst, ap, ◌∙◌, refl, arith}
+use Rattle.std.proofs.Common.{◌≡◌, ◌≢◌, ◌<◌, ◌≤◌, ◌^◌, ℕ, true, List, [], ◌∷◌, ◌++◌, ◌⊎◌, inl, inr, Some, None, Result, Ok, Err, codes, get_or, sym, subst, ap, ◌∙◌, refl, arith}
 use Rattle.std.proofs.lemmas.Bool.Decides.{nat_tests}
 use Rattle.std.proofs.lemmas.Fmt.{decimal_injective}
+use Rattle.addr_pattern.specs.declared.addr.Addr.{Addr}
 use Rattle.addr_pattern.specs.declared.endpoint.Endpoint.{Endpoint}
+use Rattle.addr_pattern.specs.declared.fault.AddrFault.{AddrFault}
+use Rattle.addr_pattern.specs.Reading.{addr_read}
 use Rattle.socks_machine.specs.declared.world.Outer.{Outer}
 use Rattle.socks_machine.specs.declared.script.ScriptLine.{ScriptLine}
 use Rattle.replay_script.specs.Conf.{publish_word}
 use Rattle.replay_script.specs.Cuts.{IsNumber}
-use Rattle.replay_script.specs.Forms.{largest, Spells, IsEndpoint, IsHex, IsNumbered, IsOpen, IsClient, IsDial, IsOutcome, is_skipped}
+use Rattle.replay_script.specs.Forms.{largest, Spells, IsEndpoint, IsHex, IsNumbered, IsOpen, IsSent, IsClient, IsTarget, IsDial, IsOutcome, is_skipped, IsAddress, IsLookup, IsFound}
 use Rattle.replay_script.specs.Users.{users_word}
 use Rattle.replay_script.proofs.Peeling.{peel_after, peel_cut, peel_number}
 
@@ -20,6 +23,10 @@ one_number limit text n m small h k =
 pub one_endpoint : (text : List ℕ) (e f : Endpoint) → IsEndpoint text e → IsEndpoint text f → e ≡ f
 unfolding IsEndpoint
 one_endpoint text e f h k = cc
+
+pub one_address : (text : List ℕ) (a b : Addr) → IsAddress text a → IsAddress text b → a ≡ b
+unfolding IsAddress
+one_address text a b h k = cc
 
 pub one_hex : (text xs ys : List ℕ) → IsHex text xs → IsHex text ys → xs ≡ ys
 unfolding IsHex
@@ -37,27 +44,46 @@ one_open text n m p q a b h k =
     let k3 = peel_cut 32 h.2.1 h.2.3.0 h.2.3.1 _ h.2.3.2 k2 in
     (sym h.2.3.3.0 ∙ k3.0, one_endpoint h.2.3.0 p q h.2.3.3.1 k3.1, one_endpoint h.2.3.1 a b h.2.3.3.2 k3.2)
 
-one_client : (text : List ℕ) (n m : ℕ) (xs ys : List ℕ) → IsClient text n xs → IsClient text m ys → (n ≡ m) × (xs ≡ ys)
-one_client text n m xs ys h k =
-    let k1 = peel_after (codes "client ") text h.0 _ h.1 k in
+pub one_sent : (front text : List ℕ) (n m : ℕ) (xs ys : List ℕ) → IsSent front text n xs → IsSent front text m ys → (n ≡ m) × (xs ≡ ys)
+one_sent front text n m xs ys h k =
+    let k1 = peel_after front text h.0 _ h.1 k in
     let k2 = peel_number 32 largest h.0 h.2.0 h.2.1 _ refl (omega arith) h.2.2 k1 in
     (sym h.2.3.0 ∙ k2.0, one_hex h.2.1 xs ys h.2.3.1 k2.1)
 
-up_refused : (text : List ℕ) (a : Endpoint) → IsOutcome text (Outer.Up a) → text ≡ codes "refused" → ⊥
-up_refused text a h k =
-    let e : ◌≡◌ {A = ℕ} 117 114 = ap (λ (z : List ℕ). get_or z 0 0) (sym h.1 ∙ k) in
-    absurd (omega (arith, e))
+-- the first byte of an outcome
+unfoldable outcome_code : Outer → ℕ
+outcome_code (Outer.Up at) = 117
+outcome_code Outer.Refused = 114
+outcome_code Outer.HostUnreachable = 104
+outcome_code Outer.NetUnreachable = 110
+outcome_code Outer.Failed = 102
+outcome_code _ = 0
 
-one_outcome : (text : List ℕ) (a b : Outer) → IsOutcome text a → IsOutcome text b → a ≡ b
-one_outcome text (Outer.Up a) (Outer.Up b) h k =
+outcome_first : (text : List ℕ) (a : Outer) → IsOutcome text a → (get_or text 0 0 ≡ outcome_code a) × (0 < outcome_code a)
+unfolding outcome_code
+outcome_first text (Outer.Up at) h = (ap (λ (z : List ℕ). get_or z 0 0) h.1, omega arith)
+outcome_first text Outer.Refused h = (ap (λ (z : List ℕ). get_or z 0 0) h, omega arith)
+outcome_first text Outer.HostUnreachable h = (ap (λ (z : List ℕ). get_or z 0 0) h, omega arith)
+outcome_first text Outer.NetUnreachable h = (ap (λ (z : List ℕ). get_or z 0 0) h, omega arith)
+outcome_first text Outer.Failed h = (ap (λ (z : List ℕ). get_or z 0 0) h, omega arith)
+outcome_first text _ h = absurd h
+
+same_outcome : (text : List ℕ) (a b : Outer) → outcome_code a ≡ outcome_code b → 0 < outcome_code a → IsOutcome text a → IsOutcome text b → a ≡ b
+unfolding outcome_code
+same_outcome text (Outer.Up a) (Outer.Up b) e s h k =
     let q = one_endpoint h.0 a b h.2 (peel_after (codes "up ") text h.0 _ h.1 k) in
     ap (λ (z : Endpoint). Outer.Up z) q
-one_outcome text Outer.Refused Outer.Refused h k = refl
-one_outcome text (Outer.Up a) Outer.Refused h k = absurd (up_refused text a h k)
-one_outcome text Outer.Refused (Outer.Up b) h k = absurd (up_refused text b k h)
-one_outcome text (Outer.Up a) _ h k = absurd k
-one_outcome text Outer.Refused _ h k = absurd k
-one_outcome text _ _ h k = absurd h
+same_outcome text Outer.Refused Outer.Refused e s h k = refl
+same_outcome text Outer.HostUnreachable Outer.HostUnreachable e s h k = refl
+same_outcome text Outer.NetUnreachable Outer.NetUnreachable e s h k = refl
+same_outcome text Outer.Failed Outer.Failed e s h k = refl
+same_outcome text a b e s h k = absurd (omega (arith, e, s))
+
+one_outcome : (text : List ℕ) (a b : Outer) → IsOutcome text a → IsOutcome text b → a ≡ b
+one_outcome text a b h k =
+    let x = outcome_first text a h in
+    let y = outcome_first text b k in
+    same_outcome text a b (sym x.0 ∙ y.0) x.1 h k
 
 one_dial : (text : List ℕ) (n m : ℕ) (a b : Outer) → IsDial text n a → IsDial text m b → (n ≡ m) × (a ≡ b)
 one_dial text n m a b h k =
@@ -65,9 +91,53 @@ one_dial text n m a b h k =
     let k2 = peel_number 32 largest h.0 h.2.0 h.2.1 _ refl (omega arith) h.2.2 k1 in
     (sym h.2.3.0 ∙ k2.0, one_outcome h.2.1 a b h.2.3.1 k2.1)
 
+-- a word that is no address
+unread : (text word : List ℕ) (a : Addr) → addr_read word ≡ Err AddrFault.BadOctet → text ≡ word → IsAddress text a → ⊥
+unfolding IsAddress
+unread text word a bad is h =
+    let e : ◌≡◌ {A = Result Addr AddrFault} (Err AddrFault.BadOctet) (Ok a) = sym bad ∙ (ap addr_read (sym is) ∙ h) in
+    cc
+
+none_unread : (text : List ℕ) (a : Addr) → text ≡ codes "none" → IsAddress text a → ⊥
+none_unread text a is h = unread text (codes "none") a refl is h
+
+fail_unread : (text : List ℕ) (a : Addr) → text ≡ codes "fail" → IsAddress text a → ⊥
+fail_unread text a is h = unread text (codes "fail") a refl is h
+
+none_fail : (text : List ℕ) → text ≡ codes "none" → text ≡ codes "fail" → ⊥
+none_fail text h k =
+    let e : ◌≡◌ {A = ℕ} 110 102 = ap (λ (z : List ℕ). get_or z 0 0) (sym h ∙ k) in
+    absurd (omega (arith, e))
+
+one_found : (text : List ℕ) (a b : Outer) → IsFound text a → IsFound text b → a ≡ b
+one_found text (Outer.Looked (Some a)) (Outer.Looked (Some b)) h k = ap (λ (z : Addr). Outer.Looked (Some z)) (one_address text a b h k)
+one_found text (Outer.Looked None) (Outer.Looked None) h k = refl
+one_found text Outer.Failed Outer.Failed h k = refl
+one_found text (Outer.Looked (Some a)) (Outer.Looked None) h k = absurd (none_unread text a k h)
+one_found text (Outer.Looked None) (Outer.Looked (Some b)) h k = absurd (none_unread text b h k)
+one_found text (Outer.Looked (Some a)) Outer.Failed h k = absurd (fail_unread text a k h)
+one_found text Outer.Failed (Outer.Looked (Some b)) h k = absurd (fail_unread text b h k)
+one_found text (Outer.Looked None) Outer.Failed h k = absurd (none_fail text h k)
+one_found text Outer.Failed (Outer.Looked None) h k = absurd (none_fail text k h)
+one_found text (Outer.Looked (Some a)) _ h k = absurd k
+one_found text (Outer.Looked None) _ h k = absurd k
+one_found text Outer.Failed _ h k = absurd k
+one_found text _ _ h k = absurd h
+
+one_lookup : (text : List ℕ) (n m : ℕ) (a b : Outer) → IsLookup text n a → IsLookup text m b → (n ≡ m) × (a ≡ b)
+one_lookup text n m a b h k =
+    let k1 = peel_after (codes "lookup ") text h.0 _ h.1 k in
+    let k2 = peel_number 32 largest h.0 h.2.0 h.2.1 _ refl (omega arith) h.2.2 k1 in
+    (sym h.2.3.0 ∙ k2.0, one_found h.2.1 a b h.2.3.1 k2.1)
+
 client_end : (text : List ℕ) (n m : ℕ) (xs : List ℕ) → IsClient text n xs → IsNumbered (codes "clientend ") text m → ⊥
 client_end text n m xs h k =
-    let e : ◌≡◌ {A = ℕ} 32 101 = ap (λ (z : List ℕ). get_or z 6 0) (sym h.1 ∙ k.1) in
+    let e : ◌≡◌ {A = ℕ} 32 101 = ap (λ (z : List ℕ). get_or z 6 0) (sym h.0.1 ∙ k.1) in
+    absurd (omega arith)
+
+target_end : (text : List ℕ) (n m : ℕ) (xs : List ℕ) → IsTarget text n xs → IsNumbered (codes "targetend ") text m → ⊥
+target_end text n m xs h k =
+    let e : ◌≡◌ {A = ℕ} 32 101 = ap (λ (z : List ℕ). get_or z 6 0) (sym h.0.1 ∙ k.1) in
     absurd (omega arith)
 
 -- ---- which form it is
@@ -77,8 +147,10 @@ unfoldable code : ScriptLine → ℕ
 code (ScriptLine.See w) = 101
 code (ScriptLine.Open w n p a) = 112
 code (ScriptLine.Client n xs) = 108
+code (ScriptLine.Target n xs) = 97
 code (ScriptLine.ClientEnd n) = 108
 code (ScriptLine.TargetEnd n) = 97
+code (ScriptLine.Lookup n o) = 111
 code (ScriptLine.Dial n o) = 105
 code (ScriptLine.Turn w n) = 117
 code _ = 0
@@ -87,9 +159,11 @@ second : (text : List ℕ) (l : ScriptLine) → Spells text l → (get_or text 1
 unfolding code
 second text (ScriptLine.See w) h = (ap (λ (z : List ℕ). get_or z 1 0) h.1, omega arith)
 second text (ScriptLine.Open w n p a) h = (ap (λ (z : List ℕ). get_or z 1 0) h.1.1, omega arith)
-second text (ScriptLine.Client n xs) h = (ap (λ (z : List ℕ). get_or z 1 0) h.1, omega arith)
+second text (ScriptLine.Client n xs) h = (ap (λ (z : List ℕ). get_or z 1 0) h.0.1, omega arith)
+second text (ScriptLine.Target n xs) h = (ap (λ (z : List ℕ). get_or z 1 0) h.0.1, omega arith)
 second text (ScriptLine.ClientEnd n) h = (ap (λ (z : List ℕ). get_or z 1 0) h.1, omega arith)
 second text (ScriptLine.TargetEnd n) h = (ap (λ (z : List ℕ). get_or z 1 0) h.1, omega arith)
+second text (ScriptLine.Lookup n o) h = (ap (λ (z : List ℕ). get_or z 1 0) h.1, omega arith)
 second text (ScriptLine.Dial n o) h = (ap (λ (z : List ℕ). get_or z 1 0) h.1, omega arith)
 second text (ScriptLine.Turn w n) h = (ap (λ (z : List ℕ). get_or z 1 0) h.1.1, omega arith)
 second text _ h = absurd h
@@ -101,9 +175,11 @@ same_form text (ScriptLine.Open w n p a) (ScriptLine.Open v m q b) e s h k =
     let r = one_open text n m p q a b h.1 k.1 in
     let x : w ≡ v = h.0 ∙ sym k.0 in
     cc (r.0, r.1, r.2, x)
-same_form text (ScriptLine.Client n xs) (ScriptLine.Client m ys) e s h k = let r = one_client text n m xs ys h k in cc (r.0, r.1)
+same_form text (ScriptLine.Client n xs) (ScriptLine.Client m ys) e s h k = let r = one_sent (codes "client ") text n m xs ys h.0 k.0 in cc (r.0, r.1)
+same_form text (ScriptLine.Target n xs) (ScriptLine.Target m ys) e s h k = let r = one_sent (codes "target ") text n m xs ys h.0 k.0 in cc (r.0, r.1)
 same_form text (ScriptLine.ClientEnd n) (ScriptLine.ClientEnd m) e s h k = let r = one_numbered (codes "clientend ") text n m h k in cc r
 same_form text (ScriptLine.TargetEnd n) (ScriptLine.TargetEnd m) e s h k = let r = one_numbered (codes "targetend ") text n m h k in cc r
+same_form text (ScriptLine.Lookup n a) (ScriptLine.Lookup m b) e s h k = let r = one_lookup text n m a b h k in cc (r.0, r.1)
 same_form text (ScriptLine.Dial n a) (ScriptLine.Dial m b) e s h k = let r = one_dial text n m a b h k in cc (r.0, r.1)
 same_form text (ScriptLine.Turn w n) (ScriptLine.Turn v m) e s h k =
     let r = one_numbered (codes "turn 1 ") text n m h.1 k.1 in
@@ -111,6 +187,8 @@ same_form text (ScriptLine.Turn w n) (ScriptLine.Turn v m) e s h k =
     cc (r, x)
 same_form text (ScriptLine.Client n xs) (ScriptLine.ClientEnd m) e s h k = absurd (client_end text n m xs h k)
 same_form text (ScriptLine.ClientEnd n) (ScriptLine.Client m xs) e s h k = absurd (client_end text m n xs k h)
+same_form text (ScriptLine.Target n xs) (ScriptLine.TargetEnd m) e s h k = absurd (target_end text n m xs h k)
+same_form text (ScriptLine.TargetEnd n) (ScriptLine.Target m xs) e s h k = absurd (target_end text m n xs k h)
 same_form text l m e s h k = absurd (omega (arith, e, s))
 
 -- a text is at most one line
@@ -130,9 +208,11 @@ other_head b k e h = subst IsOtherHead (sym e) h
 head_apart : (text : List ℕ) (l : ScriptLine) → Spells text l → IsOtherHead (get_or text 0 0)
 head_apart text (ScriptLine.See w) h = other_head (get_or text 0 0) 115 (ap (λ (z : List ℕ). get_or z 0 0) h.1) (omega arith, λ f. absurd (omega (arith, f)), λ f. absurd (omega (arith, f)))
 head_apart text (ScriptLine.Open w n p a) h = other_head (get_or text 0 0) 111 (ap (λ (z : List ℕ). get_or z 0 0) h.1.1) (omega arith, λ f. absurd (omega (arith, f)), λ f. absurd (omega (arith, f)))
-head_apart text (ScriptLine.Client n xs) h = other_head (get_or text 0 0) 99 (ap (λ (z : List ℕ). get_or z 0 0) h.1) (omega arith, λ f. absurd (omega (arith, f)), λ f. absurd (omega (arith, f)))
+head_apart text (ScriptLine.Client n xs) h = other_head (get_or text 0 0) 99 (ap (λ (z : List ℕ). get_or z 0 0) h.0.1) (omega arith, λ f. absurd (omega (arith, f)), λ f. absurd (omega (arith, f)))
+head_apart text (ScriptLine.Target n xs) h = other_head (get_or text 0 0) 116 (ap (λ (z : List ℕ). get_or z 0 0) h.0.1) (omega arith, λ f. absurd (omega (arith, f)), λ f. absurd (omega (arith, f)))
 head_apart text (ScriptLine.ClientEnd n) h = other_head (get_or text 0 0) 99 (ap (λ (z : List ℕ). get_or z 0 0) h.1) (omega arith, λ f. absurd (omega (arith, f)), λ f. absurd (omega (arith, f)))
 head_apart text (ScriptLine.TargetEnd n) h = other_head (get_or text 0 0) 116 (ap (λ (z : List ℕ). get_or z 0 0) h.1) (omega arith, λ f. absurd (omega (arith, f)), λ f. absurd (omega (arith, f)))
+head_apart text (ScriptLine.Lookup n o) h = other_head (get_or text 0 0) 108 (ap (λ (z : List ℕ). get_or z 0 0) h.1) (omega arith, λ f. absurd (omega (arith, f)), λ f. absurd (omega (arith, f)))
 head_apart text (ScriptLine.Dial n o) h = other_head (get_or text 0 0) 100 (ap (λ (z : List ℕ). get_or z 0 0) h.1) (omega arith, λ f. absurd (omega (arith, f)), λ f. absurd (omega (arith, f)))
 head_apart text (ScriptLine.Turn w n) h = other_head (get_or text 0 0) 116 (ap (λ (z : List ℕ). get_or z 0 0) h.1.1) (omega arith, λ f. absurd (omega (arith, f)), λ f. absurd (omega (arith, f)))
 head_apart text _ h = absurd h

@@ -1,5 +1,5 @@
 -- Under which conditions a script's lines are served: one worker, and clients whose input is served.
-use Rattle.std.specs.Prelude.{◌≡◌, ◌+◌, ◌-◌, ℕ, zero, suc, Bool, true, false, not, ◌&&◌, ◌==◌, List, [], ◌∷◌, ◌++◌, Option, Some, None, length, slice_get, slice_set}
+use Rattle.std.specs.Prelude.{◌≡◌, ◌≤◌, ◌+◌, ◌-◌, ℕ, zero, suc, Bool, true, false, not, ◌&&◌, ◌==◌, List, [], ◌∷◌, ◌++◌, Option, Some, None, length, slice_get, slice_set}
 use Rattle.conf_model.specs.declared.user.User.{User}
 use Rattle.conf_model.specs.Plain.{IsPlain}
 use Rattle.rule_list.specs.Numbers.{FitsNumbers}
@@ -7,6 +7,7 @@ use Rattle.socks_machine.specs.declared.world.Outer.{Outer}
 use Rattle.socks_machine.specs.declared.script.ScriptLine.{ScriptLine}
 use Rattle.socks_machine.specs.Inputs.{is_served_input}
 use Rattle.user_login.specs.UsersFile.{are_users}
+use Rattle.replay_script.specs.Forms.{most_at_once}
 use Rattle.replay_script.specs.declared.state.Side.{Side}
 use Rattle.replay_script.specs.declared.state.State.{State}
 
@@ -14,7 +15,7 @@ abbrev pub start : State
 start = record { users = []; given = false; published = false; seen = false; sides = [] }
 
 abbrev pub fresh_side : Side
-fresh_side = record { c = []; end_c = false; end_t = false; dialled = false }
+fresh_side = record { c = []; end_c = false; end_t = false; looked = false; dialled = false }
 
 -- ---- the conditions of order
 
@@ -42,8 +43,10 @@ allows s (ScriptLine.Publish k) = true
 allows s (ScriptLine.See w) = s.published
 allows s (ScriptLine.Open w a peer local) = a == length s.sides + 1
 allows s (ScriptLine.Client a bytes) = on_side (side_of s a) (may_send s.users bytes)
+allows s (ScriptLine.Target a bytes) = on_side (side_of s a) (λ side. not side.end_t)
 allows s (ScriptLine.ClientEnd a) = on_side (side_of s a) (λ side. not side.end_c)
 allows s (ScriptLine.TargetEnd a) = on_side (side_of s a) (λ side. not side.end_t)
+allows s (ScriptLine.Lookup a outer) = on_side (side_of s a) (λ side. not side.looked)
 allows s (ScriptLine.Dial a outer) = on_side (side_of s a) (λ side. not side.dialled)
 allows s (ScriptLine.Turn w a) = s.seen && on_side (side_of s a) (λ side. true)
 allows s _ = false
@@ -66,6 +69,7 @@ after s (ScriptLine.Open w a peer local) = record s { sides = s.sides ++ fresh_s
 after s (ScriptLine.Client a bytes) = change_side s a (λ side. record side { c = side.c ++ bytes })
 after s (ScriptLine.ClientEnd a) = change_side s a (λ side. record side { end_c = true })
 after s (ScriptLine.TargetEnd a) = change_side s a (λ side. record side { end_t = true })
+after s (ScriptLine.Lookup a outer) = change_side s a (λ side. record side { looked = true })
 after s (ScriptLine.Dial a outer) = change_side s a (λ side. record side { dialled = true })
 after s _ = s
 
@@ -74,7 +78,15 @@ after s _ = s
 abbrev pub IsServedOutcome : Outer → Type 0
 IsServedOutcome (Outer.Up local) = Unit {0}
 IsServedOutcome Outer.Refused = Unit {0}
+IsServedOutcome Outer.HostUnreachable = Unit {0}
+IsServedOutcome Outer.NetUnreachable = Unit {0}
+IsServedOutcome Outer.Failed = Unit {0}
 IsServedOutcome _ = ⊥
+
+abbrev pub IsServedLookup : Outer → Type 0
+IsServedLookup (Outer.Looked found) = Unit {0}
+IsServedLookup Outer.Failed = Unit {0}
+IsServedLookup _ = ⊥
 
 -- what is served of a line, whatever stands before it
 abbrev pub IsServedForm : ScriptLine → Type 0
@@ -83,8 +95,10 @@ IsServedForm (ScriptLine.Publish k) = IsPlain k × FitsNumbers k
 IsServedForm (ScriptLine.See w) = w ≡ 1
 IsServedForm (ScriptLine.Open w a peer local) = w ≡ 1
 IsServedForm (ScriptLine.Client a bytes) = Unit {0}
+IsServedForm (ScriptLine.Target a bytes) = length bytes ≤ most_at_once
 IsServedForm (ScriptLine.ClientEnd a) = Unit {0}
 IsServedForm (ScriptLine.TargetEnd a) = Unit {0}
+IsServedForm (ScriptLine.Lookup a outer) = IsServedLookup outer
 IsServedForm (ScriptLine.Dial a outer) = IsServedOutcome outer
 IsServedForm (ScriptLine.Turn w a) = w ≡ 1
 IsServedForm _ = ⊥

@@ -2,14 +2,17 @@ ghost use Rattle.std.specs.Prelude.{◌≡◌, ◌++◌, ℕ, List, IfOk, MatchO
 ghost use Rattle.addr_pattern.specs.declared.endpoint.Endpoint.{Endpoint as SomeEndpoint};
 ghost use Rattle.socks_machine.specs.declared.world.Outer.{Outer as SomeOuter};
 ghost use Rattle.socks_machine.specs.declared.script.ScriptLine.{ScriptLine as SomeLine};
-ghost use Rattle.replay_script.specs.Forms.{Spells, IsNumbered, IsOpen, IsClient, IsDial, IsOutcome, is_skipped as skips};
+ghost use Rattle.replay_script.specs.Forms.{Spells, IsNumbered, IsOpen, IsSent, IsArrival, IsDial, IsOutcome, is_skipped as skips, IsLookup, IsFound};
 
 use crate::cuts::{behind, cut, number, number_then, same};
-use crate::values::{endpoint, hex};
+use crate::values::{address, endpoint, hex};
 use addr_pattern::Endpoint;
 use conf_text::Text;
 use socks_machine::{Outer, ScriptLine};
 use std::alloc::{AllocError, Global};
+
+/// The most bytes of a target in one line.
+const MOST_AT_ONCE: usize = 65_536;
 
 /// The association behind a word.
 pub fn numbered(alloc: Global, text: &[u8], front: &[u8]) -> Result<Option<u64>, AllocError>
@@ -42,10 +45,11 @@ fn open_line(alloc: Global, text: &[u8]) -> Result<Option<(u64, Endpoint, Endpoi
     Ok(Some((n, peer, at)))
 }
 
-fn client_line(alloc: Global, text: &[u8]) -> Result<Option<(u64, Text)>, AllocError>
-    ensures { IfOk result (λ found. MatchOption found ((n : ℕ) (bytes : List ℕ) → IsClient text.now n bytes → ⊥) (λ p. IsClient text.now p.0 p.1)) }
+/// The association and the bytes behind a word.
+fn sent(alloc: Global, text: &[u8], front: &[u8]) -> Result<Option<(u64, Text)>, AllocError>
+    ensures { IfOk result (λ found. MatchOption found ((n : ℕ) (bytes : List ℕ) → IsSent front.now text.now n bytes → ⊥) (λ p. IsSent front.now text.now p.0 p.1)) }
 {
-    let Some(rest) = behind(text, b"client ") else {
+    let Some(rest) = behind(text, front) else {
         return Ok(None);
     };
     let Some((n, digits)) = number_then(alloc, rest, b' ', u64::MAX)? else {
@@ -57,12 +61,34 @@ fn client_line(alloc: Global, text: &[u8]) -> Result<Option<(u64, Text)>, AllocE
     Ok(Some((n, bytes)))
 }
 
+/// The association and the bytes behind a word, no more than one line may have.
+fn arrival(alloc: Global, text: &[u8], front: &[u8]) -> Result<Option<(u64, Text)>, AllocError>
+    ensures { IfOk result (λ found. MatchOption found ((n : ℕ) (bytes : List ℕ) → IsArrival front.now text.now n bytes → ⊥) (λ p. IsArrival front.now text.now p.0 p.1)) }
+{
+    let Some((n, bytes)) = sent(alloc, text, front)? else {
+        return Ok(None);
+    };
+    if bytes.len() > MOST_AT_ONCE {
+        return Ok(None);
+    }
+    Ok(Some((n, bytes)))
+}
+
 /// How a dial comes out.
 fn outcome(text: &[u8]) -> Option<Outer>
     ensures { MatchOption result ((outer : SomeOuter) → IsOutcome text.now outer → ⊥) (λ outer. IsOutcome text.now outer) }
 {
     if same(text, b"refused") {
         return Some(Outer::Refused);
+    }
+    if same(text, b"host") {
+        return Some(Outer::HostUnreachable);
+    }
+    if same(text, b"net") {
+        return Some(Outer::NetUnreachable);
+    }
+    if same(text, b"fail") {
+        return Some(Outer::Failed);
     }
     let back = behind(text, b"up ")?;
     let local = endpoint(back)?;
@@ -84,6 +110,35 @@ fn dial_line(alloc: Global, text: &[u8]) -> Result<Option<(u64, Outer)>, AllocEr
     Ok(Some((n, outer)))
 }
 
+/// How a lookup comes out.
+fn found(text: &[u8]) -> Option<Outer>
+    ensures { MatchOption result ((outer : SomeOuter) → IsFound text.now outer → ⊥) (λ outer. IsFound text.now outer) }
+{
+    if same(text, b"none") {
+        return Some(Outer::Looked(None));
+    }
+    if same(text, b"fail") {
+        return Some(Outer::Failed);
+    }
+    let addr = address(text)?;
+    Some(Outer::Looked(Some(addr)))
+}
+
+fn lookup_line(alloc: Global, text: &[u8]) -> Result<Option<(u64, Outer)>, AllocError>
+    ensures { IfOk result (λ found. MatchOption found ((n : ℕ) (outer : SomeOuter) → IsLookup text.now n outer → ⊥) (λ p. IsLookup text.now p.0 p.1)) }
+{
+    let Some(rest) = behind(text, b"lookup ") else {
+        return Ok(None);
+    };
+    let Some((n, back)) = number_then(alloc, rest, b' ', u64::MAX)? else {
+        return Ok(None);
+    };
+    let Some(outer) = found(back) else {
+        return Ok(None);
+    };
+    Ok(Some((n, outer)))
+}
+
 /// The line that a text spells.
 pub fn line_of(alloc: Global, text: &[u8]) -> Result<Option<ScriptLine>, AllocError>
     ensures { IfOk result (λ found. MatchOption found ((l : SomeLine) → Spells text.now l → ⊥) (λ l. Spells text.now l)) }
@@ -100,11 +155,17 @@ pub fn line_of(alloc: Global, text: &[u8]) -> Result<Option<ScriptLine>, AllocEr
     if let Some(number) = numbered(alloc, text, b"targetend ")? {
         return Ok(Some(ScriptLine::TargetEnd(number)));
     }
+    if let Some((number, outer)) = lookup_line(alloc, text)? {
+        return Ok(Some(ScriptLine::Lookup(number, outer)));
+    }
     if let Some((number, outer)) = dial_line(alloc, text)? {
         return Ok(Some(ScriptLine::Dial(number, outer)));
     }
-    if let Some((number, bytes)) = client_line(alloc, text)? {
+    if let Some((number, bytes)) = arrival(alloc, text, b"client ")? {
         return Ok(Some(ScriptLine::Client(number, bytes)));
+    }
+    if let Some((number, bytes)) = arrival(alloc, text, b"target ")? {
+        return Ok(Some(ScriptLine::Target(number, bytes)));
     }
     if let Some((number, peer, local)) = open_line(alloc, text)? {
         return Ok(Some(ScriptLine::Open(1, number, peer, local)));

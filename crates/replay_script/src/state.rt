@@ -1,7 +1,7 @@
-ghost use Rattle.std.specs.Prelude.{◌≡◌, true, IfOk, MatchOption, None, ◌+◌, ◌<◌, length, ℕ};
+ghost use Rattle.std.specs.Prelude.{◌≡◌, true, IfOk, MatchOption, None, ◌+◌, ◌<◌, length, ℕ, List as Items};
 ghost use Rattle.addr_pattern.specs.declared.endpoint.Endpoint.{Endpoint as SomeEndpoint};
 ghost use Rattle.socks_machine.specs.declared.world.Outer.{Outer as SomeOuter};
-ghost use Rattle.socks_machine.specs.declared.script.ScriptLine.TheVariants.{UsersAre, Open, Client, ClientEnd, TargetEnd, Dial, Turn};
+ghost use Rattle.socks_machine.specs.declared.script.ScriptLine.TheVariants.{UsersAre, Open, Client, Target, ClientEnd, TargetEnd, Dial, Turn, Lookup};
 ghost use Rattle.replay_script.specs.Conditions.{start, fresh_side, side_of, may_give as may_give_of, Allowed, IsServedForm};
 ghost use Rattle.replay_script.specs.Script.{is_looked_at};
 ghost use Rattle.user_login.specs.UsersFile.{are_users};
@@ -14,9 +14,6 @@ use socks_machine::ScriptLine;
 use std::alloc::{AllocError, Global};
 use user_login::Users;
 
-/// The most bytes of a client that are served.
-const LONGEST: usize = 65_535;
-
 /// What the lines so far say of one association.
 #[derive(Drop)]
 pub struct Side {
@@ -26,6 +23,8 @@ pub struct Side {
     pub end_c: bool,
     /// Whether the target has ended.
     pub end_t: bool,
+    /// Whether a line said how a lookup comes out.
+    pub looked: bool,
     pub dialled: bool,
 }
 
@@ -50,6 +49,7 @@ impl Side {
             c: Text::make(alloc),
             end_c: false,
             end_t: false,
+            looked: false,
             dialled: false,
         }
     }
@@ -113,6 +113,21 @@ impl State {
         true
     }
 
+    fn looked_up(&mut self, alloc: Global, number: u64) -> bool
+        ensures { (outer : SomeOuter) → Allowed self.old self.new (Lookup number outer) result }
+    {
+        let Some(at) = self.place(number) else {
+            return false;
+        };
+        let mut side = self.sides.replace(at, Side::fresh(alloc));
+        if side.looked {
+            return false;
+        }
+        side.looked = true;
+        self.sides.set(at, side);
+        true
+    }
+
     fn dialled(&mut self, alloc: Global, number: u64) -> bool
         ensures { (outer : SomeOuter) → Allowed self.old self.new (Dial number outer) result }
     {
@@ -138,15 +153,25 @@ impl State {
         if side.end_c {
             return Ok(false);
         }
-        if side.c.len() > LONGEST || bytes.len() > LONGEST - side.c.len() {
-            return Ok(false);
-        }
         side.c.add(bytes)?;
         if !is_served_input(&self.users, side.c.as_slice()) {
             return Ok(false);
         }
         self.sides.set(at, side);
         Ok(true)
+    }
+
+    /// Whether bytes of the target may come here. They are kept nowhere, since no condition asks for them.
+    fn target(&self, number: u64) -> bool
+        ensures { (bytes : Items ℕ) → Allowed self.now self.now (Target number bytes) result }
+    {
+        let Some(at) = self.place(number) else {
+            return false;
+        };
+        match self.sides.get(at) {
+            None => false,
+            Some(side) => !side.end_t,
+        }
     }
 
     fn opened(&mut self, alloc: Global, number: u64) -> Result<bool, AllocError>
@@ -217,8 +242,10 @@ impl State {
             }
             ScriptLine::Open(_, number, _, _) => self.opened(alloc, *number),
             ScriptLine::Client(number, bytes) => self.client(alloc, *number, bytes.as_slice()),
+            ScriptLine::Target(number, _) => Ok(self.target(*number)),
             ScriptLine::ClientEnd(number) => Ok(self.client_end(alloc, *number)),
             ScriptLine::TargetEnd(number) => Ok(self.target_end(alloc, *number)),
+            ScriptLine::Lookup(number, _) => Ok(self.looked_up(alloc, *number)),
             ScriptLine::Dial(number, _) => Ok(self.dialled(alloc, *number)),
             ScriptLine::Turn(_, number) => Ok(self.may_turn(*number)),
             _ => Ok(false),

@@ -1,4 +1,5 @@
 use super::*;
+use addr_pattern::Addr;
 use conf_model::{ConfFault, ConfKind};
 use conf_text::{Text, TextFault};
 use socks_machine::{Outer, ScriptLine};
@@ -136,14 +137,64 @@ fn the_other_lines(rt: HostRuntime) -> Result<(), Fail> {
         (9, "clientend 1\nclient 1 00\n"),
         (8, "users 0\n"),
         (9, "targetend 1\ntargetend 1\n"),
-        (8, "target 1 00\n"),
-        (8, "dial 1 host\n"),
+        (9, "targetend 1\ntarget 1 00\n"),
+        (8, "target 1 0\n"),
+        (8, "target 2 00\n"),
+        (8, "target  1 00\n"),
+        (8, "dial 1 hosts\n"),
+        (8, "dial 1 Net\n"),
+        (8, "lookup 2 none\n"),
+        (8, "lookup 1\n"),
+        (8, "lookup 1 \n"),
+        (8, "lookup 1 none \n"),
+        (8, "lookup 1 failed\n"),
+        (8, "lookup 1 a.test\n"),
+        (8, "lookup 1 1.2.3.04\n"),
+        (8, "lookup 1 1.2.3.4:80\n"),
+        (8, "lookup 1 [::1]\n"),
+        (9, "lookup 1 none\nlookup 1 none\n"),
+        (10, "lookup 1 fail\nturn 1 1\nlookup 1 1.2.3.4\n"),
         (8, "dial 1 up [::1]\n"),
         (9, "dial 1 refused\ndial 1 up 1.2.3.4:1\n"),
+        (9, "dial 1 host\ndial 1 fail\n"),
     ] {
         let (at, kind) = fault_of(rt.alloc(), RULES, text)?;
         assert_eq!(rt; at, line, "at {text}");
         assert_eq!(rt; kind, ScriptKind::NotBuilt, "at {text}");
+    }
+    Ok(())
+}
+
+/// The spellings of addresses are those of RFC 4291, section 2.2.
+#[test]
+fn how_lookups_come_out(rt: HostRuntime) -> Result<(), Fail> {
+    for (outcome, text) in [
+        (Outer::Looked(None), "lookup 1 none"),
+        (Outer::Failed, "clientend 1\nlookup 1 fail\n"),
+        (
+            Outer::Looked(Some(Addr::V4(0xC633_640A))),
+            "dial 1 refused\nlookup 1 198.51.100.10\n",
+        ),
+        (
+            Outer::Looked(Some(Addr::V6(0x2001_0DB8_0000_0000_0008_0800_200C_417A))),
+            "lookup 1 2001:DB8:0:0:8:800:200C:417A\n",
+        ),
+        (
+            Outer::Looked(Some(Addr::V6(0xFFFF_8190_3426))),
+            "lookup 1 ::FFFF:129.144.52.38\n",
+        ),
+    ] {
+        let mut script = Text::from_slice(rt.alloc(), RULES.as_bytes())?;
+        script.add(text.as_bytes())?;
+        match read_script(rt.alloc(), script.as_slice()) {
+            Ok(lines) => match lines.as_slice().last() {
+                Some(ScriptLine::Lookup(1, found)) => {
+                    assert_eq!(rt; *found, outcome, "at {text}")
+                }
+                _ => Err("the last line is no lookup")?,
+            },
+            Err(_) => Err("a lookup was refused")?,
+        }
     }
     Ok(())
 }
@@ -233,52 +284,59 @@ fn where_users_come(rt: HostRuntime) -> Result<(), Fail> {
 
 /// A greeting and a request in hexadecimal digits (RFC 1928, sections 3 and 4), a login (RFC 1929, section 2), and requests
 /// of the SOCKS 4 and 4A memos. The user is `abc` with the password `abc`.
+/// A row has the line of the fault `NotBuilt`, or 0 where all is served.
+const SENT: &[(u32, &str)] = &[
+    (
+        0,
+        "client 1 05010005010001010203040050\nclient 1 00\nclientend 1\n",
+    ),
+    (
+        0,
+        "client 1 0501000501000420010db80000000000000000000000010050\n",
+    ),
+    (5, "client 1 05010005020001010203040050\n"),
+    (6, "client 1 050100050200\nclient 1 01010203040050\n"),
+    (5, "client 1 05010005030001010203040050\n"),
+    (6, "client 1 0501\nclient 1 0005030001010203040050\n"),
+    (0, "client 1 0501000501000306612e746573740050\n"),
+    (0, "client 1 0501000501000306612e74657374\nclient 1 0050\n"),
+    (5, "client 1 0501000502000306612e746573740050\n"),
+    (6, "client 1 0501000503000306612e74657374\nclient 1 0050\n"),
+    (0, "client 1 0501000501000307312e322e332e340050\n"),
+    (0, "client 1 040100500102030400\n"),
+    (5, "client 1 040200500102030400\n"),
+    (0, "client 1 04010050000000016100612e7465737400\n"),
+    (
+        0,
+        "client 1 04010050000000016100\nclient 1 612e7465737400\n",
+    ),
+    (5, "client 1 04020050000000016100612e7465737400\n"),
+    (0, "client 1 04010050000000016100312e322e332e3400\n"),
+    (
+        0,
+        "client 1 050102010361626303616263\nclient 1 05010001010203040050\n",
+    ),
+    (
+        6,
+        "client 1 050102010361626303616263\nclient 1 05020001010203040050\n",
+    ),
+    (
+        0,
+        "client 1 050102010361626303616264\nclient 1 05020001010203040050\n",
+    ),
+    (0, "client 1 05010005\nclientend 1\n"),
+    (0, "client 1 474554\n"),
+    (
+        0,
+        "client 1 050100050400\nclient 1 05010005020001010203040050\n",
+    ),
+];
+
 #[test]
 fn what_clients_send(rt: HostRuntime) -> Result<(), Fail> {
     let front = "sockd-script 1\nusers 1\nabc:@\nopen 1 1 10.0.0.5:5000 127.0.0.1:1080\n";
-    for (line, text) in [
-        (
-            0,
-            "client 1 05010005010001010203040050\nclient 1 00\nclientend 1\n",
-        ),
-        (
-            0,
-            "client 1 0501000501000420010db80000000000000000000000010050\n",
-        ),
-        (5, "client 1 05010005020001010203040050\n"),
-        (6, "client 1 050100050200\nclient 1 01010203040050\n"),
-        (5, "client 1 05010005030001010203040050\n"),
-        (6, "client 1 0501\nclient 1 0005030001010203040050\n"),
-        (5, "client 1 0501000501000306612e746573740050\n"),
-        (6, "client 1 0501000501000306612e74657374\nclient 1 0050\n"),
-        (0, "client 1 0501000501000307312e322e332e340050\n"),
-        (0, "client 1 040100500102030400\n"),
-        (5, "client 1 040200500102030400\n"),
-        (5, "client 1 04010050000000016100612e7465737400\n"),
-        (
-            6,
-            "client 1 04010050000000016100\nclient 1 612e7465737400\n",
-        ),
-        (0, "client 1 04010050000000016100312e322e332e3400\n"),
-        (
-            0,
-            "client 1 050102010361626303616263\nclient 1 05010001010203040050\n",
-        ),
-        (
-            6,
-            "client 1 050102010361626303616263\nclient 1 05020001010203040050\n",
-        ),
-        (
-            0,
-            "client 1 050102010361626303616264\nclient 1 05020001010203040050\n",
-        ),
-        (0, "client 1 05010005\nclientend 1\n"),
-        (0, "client 1 474554\n"),
-        (
-            0,
-            "client 1 050100050400\nclient 1 05010005020001010203040050\n",
-        ),
-    ] {
+    for row in SENT {
+        let (line, text) = *row;
         let script = with_digits(
             rt.alloc(),
             format!(in rt.alloc(); "{front}{text}")?.as_str(),
@@ -296,27 +354,23 @@ fn what_clients_send(rt: HostRuntime) -> Result<(), Fail> {
 }
 
 #[test]
-fn how_much_clients_send(rt: HostRuntime) -> Result<(), Fail> {
-    let mut text = Text::from_slice(rt.alloc(), RULES.as_bytes())?;
-    text.add(b"client 1 ")?;
-    for _ in 0..65_535 {
+fn how_much_one_line_sends(rt: HostRuntime) -> Result<(), Fail> {
+    for front in ["client 1 ", "target 1 "] {
+        let mut text = Text::from_slice(rt.alloc(), RULES.as_bytes())?;
+        text.add(front.as_bytes())?;
+        for _ in 0..65_536 {
+            text.add(b"47")?;
+        }
+        assert_eq!(rt;
+            read_fault(rt.alloc(), text.as_slice()),
+            (0, ScriptKind::Memory)
+        );
         text.add(b"47")?;
+        assert_eq!(rt;
+            read_fault(rt.alloc(), text.as_slice()),
+            (8, ScriptKind::NotBuilt)
+        );
     }
-    assert_eq!(rt;
-        read_fault(rt.alloc(), text.as_slice()),
-        (0, ScriptKind::Memory)
-    );
-    text.add(b"47")?;
-    assert_eq!(rt;
-        read_fault(rt.alloc(), text.as_slice()),
-        (8, ScriptKind::NotBuilt)
-    );
-    text.truncate(text.len() - 2);
-    text.add(b"\nclient 1 47")?;
-    assert_eq!(rt;
-        read_fault(rt.alloc(), text.as_slice()),
-        (9, ScriptKind::NotBuilt)
-    );
     Ok(())
 }
 
@@ -339,18 +393,19 @@ fn form(line: &ScriptLine) -> u32 {
         ScriptLine::UsersAre(users) if users.len() == 1 => 1,
         ScriptLine::Publish(config) => match config.socks.as_slice() {
             [first, second] if first.pass && !second.pass => 2,
-            [] if config.routes.len() == 1 && config.methods.len() == 2 => 12,
+            [] if config.routes.len() == 1 && config.methods.len() == 2 => 13,
             _ => 0,
         },
         ScriptLine::See(1) => 3,
         ScriptLine::Open(1, 1, _, _) => 4,
         ScriptLine::Client(1, bytes) if bytes.as_slice() == [0x47, 0xab].as_slice() => 5,
         ScriptLine::ClientEnd(1) => 6,
-        ScriptLine::TargetEnd(1) => 7,
-        ScriptLine::Open(1, 2, _, _) => 8,
-        ScriptLine::Dial(1, Outer::Refused) => 9,
-        ScriptLine::Dial(2, Outer::Up(at)) if at.port == 40_000 => 10,
-        ScriptLine::Turn(1, 2) => 11,
+        ScriptLine::Target(1, bytes) if bytes.as_slice() == [0, 0xcd].as_slice() => 7,
+        ScriptLine::TargetEnd(1) => 8,
+        ScriptLine::Open(1, 2, _, _) => 9,
+        ScriptLine::Dial(1, Outer::Refused) => 10,
+        ScriptLine::Dial(2, Outer::Up(at)) if at.port == 40_000 => 11,
+        ScriptLine::Turn(1, 2) => 12,
         _ => 0,
     }
 }
@@ -358,18 +413,38 @@ fn form(line: &ScriptLine) -> u32 {
 #[test]
 fn every_form(rt: HostRuntime) -> Result<(), Fail> {
     let text =
-        "sockd-script 1\n# a script\n\nusers 2\n# one\nabc:@\npublish 4\ninternal: 127.0.0.1 port = 1080\nclient pass { from: 0/0 to: 0/0 }\nsocks pass { from: 0.0.0.0/0 to: 10.0.0.0/8 }\nsocks block { from: 1.2.3.4 to: 0/0 }\nsee 1\n#see 2\nopen 1 1 10.0.0.5:5000 127.0.0.1:1080\nclient 1 47aB\nclientend 1\ntargetend 1\nopen 1 2 [2001:db8::5]:5000 [::1]:1080\ndial 1 refused\ndial 2 up [2001:db8::9]:40000\nturn 1 2\npublish 4\ninternal: ::1\nmethod: username none\nroute { to: .example\nvia: direct }";
+        "sockd-script 1\n# a script\n\nusers 2\n# one\nabc:@\npublish 4\ninternal: 127.0.0.1 port = 1080\nclient pass { from: 0/0 to: 0/0 }\nsocks pass { from: 0.0.0.0/0 to: 10.0.0.0/8 }\nsocks block { from: 1.2.3.4 to: 0/0 }\nsee 1\n#see 2\nopen 1 1 10.0.0.5:5000 127.0.0.1:1080\nclient 1 47aB\nclientend 1\ntarget 1 00Cd\ntargetend 1\nopen 1 2 [2001:db8::5]:5000 [::1]:1080\ndial 1 refused\ndial 2 up [2001:db8::9]:40000\nturn 1 2\npublish 4\ninternal: ::1\nmethod: username none\nroute { to: .example\nvia: direct }";
     let script = with_digits(rt.alloc(), text)?;
     match read_script(rt.alloc(), script.as_slice()) {
         Err(fault) => assert_eq!(rt; fault.line, 0, "a script that is served was refused"),
         Ok(lines) => {
             let mut number = 0u32;
             for line in lines.as_slice() {
-                assert!(rt; number < 12);
+                assert!(rt; number < 13);
                 number += 1;
                 assert_eq!(rt; form(line), number);
             }
-            assert_eq!(rt; number, 12);
+            assert_eq!(rt; number, 13);
+        }
+    }
+    Ok(())
+}
+
+#[test]
+fn every_outcome(rt: HostRuntime) -> Result<(), Fail> {
+    for (text, outcome) in [
+        ("refused", Outer::Refused),
+        ("host", Outer::HostUnreachable),
+        ("net", Outer::NetUnreachable),
+        ("fail", Outer::Failed),
+    ] {
+        let script = format!(in rt.alloc(); "{RULES}dial 1 {text}")?;
+        match read_script(rt.alloc(), script.as_bytes()) {
+            Err(_) => Err("an outcome was refused")?,
+            Ok(lines) => match lines.as_slice().last() {
+                Some(ScriptLine::Dial(1, outer)) => assert_eq!(rt; *outer, outcome, "at {text}"),
+                _ => Err("the last line is no dial")?,
+            },
         }
     }
     Ok(())

@@ -1,8 +1,9 @@
 ghost use Rattle.std.specs.Prelude.{◌≡◌, ℕ, List, IfOk, MatchOption};
+ghost use Rattle.addr_pattern.specs.declared.addr.Addr.{Addr as SomeAddr};
 ghost use Rattle.addr_pattern.specs.declared.endpoint.Endpoint.{Endpoint as SomeEndpoint};
-ghost use Rattle.replay_script.specs.Forms.{IsEndpoint, IsHex};
+ghost use Rattle.replay_script.specs.Forms.{IsAddress, IsEndpoint, IsHex};
 
-use addr_pattern::Endpoint;
+use addr_pattern::{Addr, Endpoint};
 use conf_text::Text;
 use hex::FromHexError;
 use std::alloc::{AllocError, Global};
@@ -12,6 +13,13 @@ pub fn endpoint(text: &[u8]) -> Option<Endpoint>
     ensures { MatchOption result ((e : SomeEndpoint) → IsEndpoint text.now e → ⊥) (λ e. IsEndpoint text.now e) }
 {
     Endpoint::read(text).ok()
+}
+
+/// The address that a text spells.
+pub fn address(text: &[u8]) -> Option<Addr>
+    ensures { MatchOption result ((a : SomeAddr) → IsAddress text.now a → ⊥) (λ a. IsAddress text.now a) }
+{
+    Addr::read(text).ok()
 }
 
 /// The bytes that a text spells in hexadecimal digits, two for each.

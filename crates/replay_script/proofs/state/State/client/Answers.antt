@@ -1,10 +1,9 @@
-use Rattle.std.proofs.Common.{◌≡◌, ◌<◌, ◌+◌, ℕ, true, false, List, ◌++◌, length, slice_set, sym, ap, ◌∙◌, arith}
+use Rattle.std.proofs.Common.{◌≡◌, ℕ, true, false, List, ◌++◌, slice_set, sym, ap, ◌∙◌}
 use Rattle.replay_script.specs.declared.state.Side.{Side}
 use Rattle.socks_machine.specs.Inputs.{is_served_input}
 use Rattle.replay_script.specs.Conditions.{may_send}
-use Rattle.replay_script.proofs.Sides.{tested, changed, too_long}
+use Rattle.replay_script.proofs.Sides.{tested, changed}
 use Rattle.replay_script.proofs.state.State.client.Goals as goal
-use Rattle.replay_script.proofs.state.State.client.Goals.{then-len-gt-LONGEST-via-then-len-gt-LONGEST, then-len-gt-LONGEST-via-else-len-gt-LONGEST+then-bytes-len}
 
 pub returns : goal.returns
 returns c =
@@ -18,14 +17,6 @@ returns c =
       tested c.args.self.now c.args.number c.in-Some.at c.replace-side.result _ c.in-Some.ensures.0 c.replace-side.ensures.value ∙ test,
       changed c.args.self.now c.args.number c.in-Some.at change c.replace-side.result _ _ _ c.in-Some.ensures.0 c.replace-side.ensures.value c.replace-side.ensures.after put,
     )
-
-pub returns-then-len-gt-LONGEST : goal.returns-then-len-gt-LONGEST
-returns-then-len-gt-LONGEST c =
-    let long : 65535 < length c.replace-side.result.c + length c.args.bytes.now = elim c.then-len-gt-LONGEST.branch [
-      | then-len-gt-LONGEST-via-then-len-gt-LONGEST w ↦ omega arith
-      | then-len-gt-LONGEST-via-else-len-gt-LONGEST+then-bytes-len w ↦ omega arith
-    ] in
-    tested c.args.self.now c.args.number c.in-Some.at c.replace-side.result _ c.in-Some.ensures.0 c.replace-side.ensures.value ∙ too_long c.args.self.now.users c.replace-side.result c.args.bytes.now long
 
 pub returns-then-not-is_served_input : goal.returns-then-not-is_served_input
 returns-then-not-is_served_input c =

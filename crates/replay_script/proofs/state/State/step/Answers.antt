@@ -1,7 +1,13 @@
 use Rattle.replay_script.proofs.state.State.step.Goals as goal
 
+pub returns-in-Lookup : goal.returns-in-Lookup
+returns-in-Lookup c = rw c.in-Lookup.is (c.looked_up.ensures c.in-Lookup.field-1)
+
 pub returns-in-Dial : goal.returns-in-Dial
 returns-in-Dial c = rw c.in-Dial.is (c.dialled.ensures c.in-Dial.field-1)
 
 pub returns-in-Turn : goal.returns-in-Turn
 returns-in-Turn c = rw c.in-Turn.is (c.may_turn.ensures c.in-Turn.field-0)
+
+pub returns-in-Target : goal.returns-in-Target
+returns-in-Target c = rw c.in-Target.is (c.target.ensures c.in-Target.field-1)
