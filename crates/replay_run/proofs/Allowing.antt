@@ -1,10 +1,11 @@
 -- A turn of the association is one that the script allows.
-use Rattle.std.proofs.Common.{ℕ, ◌≡◌, ◌<◌, ◌≤◌, inl, inr, ◌+◌, ◌∙◌, sym, ap, subst, refl, Bool, true, false, ◌&&◌, Option, Some, None, is_some, List, [], ◌∷◌, ◌++◌, length, map, arith, length-append}
+use Rattle.std.proofs.Common.{ℕ, ◌≡◌, ◌<◌, ◌≤◌, inl, inr, ◌+◌, ◌∙◌, sym, ap, subst, refl, Bool, true, false, ◌&&◌, Option, Some, None, is_some, List, [], ◌++◌, length, map, arith, length-append}
 use Rattle.std.specs.Prelude.{IfSome, All, Contains, IsTrue}
 use mathlib.Core.List.{IsPrefix}
 use Rattle.addr_pattern.specs.declared.endpoint.Endpoint.{Endpoint}
 use Rattle.conf_model.specs.declared.config.Config.{Config}
 use Rattle.conf_model.specs.declared.protocol.Command.{Command}
+use Rattle.net_ends.specs.declared.net.Lookup.{Lookup}
 use Rattle.net_ends.specs.Nets.{Plan}
 use Rattle.net_ends.specs.InMemory.{LinkInMemory, NetInMemory, told_of_link, told_of_net}
 use Rattle.socks_machine.specs.declared.cause.StopBy.{StopBy}
@@ -41,7 +42,7 @@ use Rattle.assoc_core.specs.declared.assoc.Assoc.{Assoc}
 use Rattle.assoc_core.specs.declared.assoc.Next.{Next}
 use Rattle.assoc_core.specs.Plain.{owed_c, owed_t, prelude_of}
 use Rattle.assoc_core.specs.Stands.{HoldsTarget}
-use Rattle.assoc_core.specs.Turns.{Turns, event_of, links, mark_of, left_of, context, IsOuterOf, IsFull, IsIdle, IsThereAnd, SameTarget, StopsReading, Unread, ReadsEnd, outer_of, IsUnfailing}
+use Rattle.assoc_core.specs.Turns.{Turns, event_of, links, mark_of, left_of, context, IsOuterOf, IsFull, IsIdle, IsThereAnd, SameTarget, StopsReading, Unread, ReadsEnd, outer_of, IsUnfailing, looked_as}
 use Rattle.replay_run.specs.Mirrors.{IsGoing, TargetMirrors}
 use Rattle.replay_run.proofs.Outsides.{same-arrived, same-ends, same-cap, target-behind, owed-c-short, owed-t-short}
 
@@ -146,13 +147,6 @@ target-bytes k (Some l) h same = prefix-is l.given _ l.arrived _
 reads-arrived-t : (k : Turning) → IsPrefix (k.a.state.t ++ k.turns.acts.t) k.o.t
 reads-arrived-t k = subst (λ (z : List ℕ). IsPrefix z k.o.t) k.turns.t (target-bytes k (left_of k.next).target k.turns.target k.turns.same_target)
 
-nothing-from-target : (k : Turning) → (left k).t ≡ []
-nothing-from-target k = empty (left k).t (subst (λ (z : List ℕ). IsPrefix (left k).t z) k.going.quiet.t (target-bytes k (left_of k.next).target k.turns.target k.turns.same_target))
-  where
-    empty : (xs : List ℕ) → IsPrefix xs [] → xs ≡ []
-    empty [] h = refl
-    empty (x ∷ xs) h = cc (h.1)
-
 -- ---- no link is full
 
 not-full-c : (k : Turning) → k.turns.acts.full_c ≡ false
@@ -161,11 +155,11 @@ not-full-c k = not-true k.turns.acts.full_c (λ h.
     let cap : (client' k).cap ≤ length (client' k).taken = f.0 (client' k).cap (client' k).taken refl refl in
     let taken : length (client' k).taken ≡ length (left k).sent_c = ap length (k.turns.client.taken' (client' k).taken refl) in
     let same : (client' k).cap ≡ k.a.client.cap = same-cap k.a.client (client' k) k.turns.same_client in
-    let room : 64 ≤ k.a.client.cap = k.going.cap in
+    let room : 64 + length k.o.t ≤ k.a.client.cap = k.going.cap in
     let owed : length (owed_c (left k)) ≤ 36 + length (left k).t = owed-c-short (left k).c (left k).t (left k).chosen _ (left k).cause in
-    let none : length (left k).t ≡ 0 = ap length (nothing-from-target k) in
+    let arrived : length (left k).t ≤ length k.o.t = prefix-short (left k).t k.o.t (target-bytes k (left_of k.next).target k.turns.target k.turns.same_target) in
     let below : length (left k).sent_c < length (owed_c (left k)) = f.2 in
-    absurd (omega (arith, cap, taken, same, room, owed, none, below)))
+    absurd (omega (arith, cap, taken, same, room, owed, arrived, below)))
 
 full-target : (k : Turning) (t : Option LinkInMemory) → HoldsTarget told_of_link (left k) t → SameTarget told_of_link (told_of_net k.net) k.a.target t
     → IsThereAnd t (λ link. IsFull (told_of_link link)) → length (left k).sent_t < length (owed_t (left k)) → ⊥
@@ -237,23 +231,32 @@ dialled-as : (o : Outside) (net : NetInMemory) (g : Grant) (outer : Outer) → o
     → (g.facts.command ≡ Command.Connect) × ((plan : Plan) → (told_of_net net).plan ≡ Some plan → outer ≡ outer_of plan.outcome) → outer ≡ reached_as o g.facts.command
 dialled-as o net g outer dial h = h.1 (record { outcome = net.outcome; link = told_of_link net.link }) refl ∙ (dial ∙ sym (ap (reached_as o) h.0))
 
-outer-is : (o : Outside) (net : NetInMemory) (p : Phase) (outer : Outer) → ((g : Grant) → p ≡ Phase.Reach g → outer_of net.outcome ≡ o.dial) → IsOuterOf (told_of_net net) p outer → OuterIs o p outer
-outer-is o net p Outer.Nothing dial h = tt
-outer-is o net p (Outer.Desk logged) dial h = tt
-outer-is o net (Phase.Reach g) (Outer.Looked found) dial h = dialled-as o net g (Outer.Looked found) (dial g refl) h
-outer-is o net (Phase.Reach g) (Outer.Up at) dial h = dialled-as o net g (Outer.Up at) (dial g refl) h
-outer-is o net (Phase.Reach g) Outer.Refused dial h = dialled-as o net g Outer.Refused (dial g refl) h
-outer-is o net (Phase.Reach g) Outer.HostUnreachable dial h = dialled-as o net g Outer.HostUnreachable (dial g refl) h
-outer-is o net (Phase.Reach g) Outer.NetUnreachable dial h = dialled-as o net g Outer.NetUnreachable (dial g refl) h
-outer-is o net (Phase.Reach g) Outer.Failed dial h = dialled-as o net g Outer.Failed (dial g refl) h
-outer-is o net p outer dial h = absurd h
+looked-up : (o : Outside) (net : NetInMemory) (outer : Outer) → looked_as net.lookup ≡ o.lookup → ((plan : Lookup) → (told_of_net net).lookup_plan ≡ Some plan → outer ≡ looked_as plan) → outer ≡ o.lookup
+looked-up o net outer same h = h net.lookup refl ∙ same
+
+outer-is : (o : Outside) (net : NetInMemory) (p : Phase) (outer : Outer) → ((g : Grant) → p ≡ Phase.Reach g → outer_of net.outcome ≡ o.dial) → looked_as net.lookup ≡ o.lookup → IsOuterOf (told_of_net net) p outer → OuterIs o p outer
+outer-is o net p Outer.Nothing dial same h = tt
+outer-is o net p (Outer.Desk logged) dial same h = tt
+outer-is o net (Phase.Reach g) (Outer.Looked found) dial same h = dialled-as o net g (Outer.Looked found) (dial g refl) h
+outer-is o net (Phase.Reach g) (Outer.Up at) dial same h = dialled-as o net g (Outer.Up at) (dial g refl) h
+outer-is o net (Phase.Reach g) Outer.Refused dial same h = dialled-as o net g Outer.Refused (dial g refl) h
+outer-is o net (Phase.Reach g) Outer.HostUnreachable dial same h = dialled-as o net g Outer.HostUnreachable (dial g refl) h
+outer-is o net (Phase.Reach g) Outer.NetUnreachable dial same h = dialled-as o net g Outer.NetUnreachable (dial g refl) h
+outer-is o net (Phase.Reach g) Outer.Failed dial same h = dialled-as o net g Outer.Failed (dial g refl) h
+outer-is o net (Phase.Seek name) (Outer.Looked found) dial same h = looked-up o net (Outer.Looked found) same h
+outer-is o net (Phase.Seek name) (Outer.Up at) dial same h = looked-up o net (Outer.Up at) same h
+outer-is o net (Phase.Seek name) Outer.Refused dial same h = looked-up o net Outer.Refused same h
+outer-is o net (Phase.Seek name) Outer.HostUnreachable dial same h = looked-up o net Outer.HostUnreachable same h
+outer-is o net (Phase.Seek name) Outer.NetUnreachable dial same h = looked-up o net Outer.NetUnreachable same h
+outer-is o net (Phase.Seek name) Outer.Failed dial same h = looked-up o net Outer.Failed same h
+outer-is o net p outer dial same h = absurd h
 
 outer-fits : (k : Turning) → OuterFits (basis_of k.w) k.generation k.config k.o (event k) k.a.state
 outer-fits k = record {
   behind = k.turns.behind;
   taken' = k.turns.taken' 1;
   is = outer-is k.o k.net (phase (basis_of k.w) k.turns.behind) k.turns.acts.outer
-      (λ g at. dial-is k k.a.target k.going.target k.going.stands.target (unreached k g at)) k.turns.outer';
+      (λ g at. dial-is k k.a.target k.going.target k.going.stands.target (unreached k g at)) k.going.lookup k.turns.outer';
 }
 
 -- ---- the ends

@@ -7,8 +7,6 @@ use Rattle.conf_model.specs.Plain.{IsPlain}
 use Rattle.conf_model.specs.declared.user.User.{User}
 use Rattle.generation.specs.Published.{Generations}
 use Rattle.rule_list.specs.Rules.{numbered}
-use Rattle.assoc_core.specs.Stands.{Stands}
-use Rattle.socks_machine.specs.Socks.{socks}
 use Rattle.net_ends.specs.InMemory.{LinkInMemory, NetInMemory, told_of_link, told_of_net}
 use Rattle.session_desk.specs.Standings.{StandsFor}
 use Rattle.socks_machine.specs.declared.record.Record.{Record}

@@ -1,11 +1,12 @@
--- The lines that change one association: bytes of the client, its end, the target's end, and how a dial is to come out.
-use Rattle.std.proofs.Common.{ℕ, suc, ◌≡◌, ◌<◌, ◌+◌, ◌-◌, ◌∙◌, sym, ap, subst, refl, Bool, true, false, ◌&&◌, not, nat_le, Option, Some, None, List, [], ◌∷◌, ◌++◌, length, map, arith, append_assoc, append-nil, length-append, slice_set}
+-- The lines that change one association: bytes and ends of the client and of the target, and how a lookup and a dial are to come out.
+use Rattle.std.proofs.Common.{ℕ, zero, suc, ◌≡◌, ◌<◌, ◌-◌, ◌∙◌, sym, ap, subst, refl, Bool, true, false, not, Option, Some, None, List, [], ◌∷◌, ◌++◌, length, map, arith, append_assoc, append-nil, length-append, slice_set}
 use Rattle.std.proofs.lemmas.Bool.{and_parts, not-true}
 use Rattle.std.proofs.lemmas.List.{length-set}
 use Rattle.std.specs.Prelude.{slice_get}
 use mathlib.Core.List.{IsPrefix}
 use Rattle.conf_model.specs.declared.user.User.{User}
 use Rattle.net_ends.specs.InMemory.{LinkInMemory, NetInMemory, told_of_link}
+use Rattle.net_ends.specs.declared.net.Lookup.{Lookup}
 use Rattle.net_ends.specs.Nets.{DialOutcome}
 use Rattle.net_ends.specs.Told.{Told, Arrival}
 use Rattle.session_desk.specs.Standings.{StandsFor}
@@ -19,14 +20,14 @@ use Rattle.socks_machine.specs.Inputs.{is_served_input}
 use Rattle.socks_machine.specs.Step.{basis_of}
 use Rattle.assoc_core.specs.declared.assoc.Assoc.{Assoc}
 use Rattle.assoc_core.specs.Stands.{Holds, HoldsTarget, EndsBehind, GivesFirst}
-use Rattle.assoc_core.specs.Turns.{outer_of}
+use Rattle.assoc_core.specs.Turns.{looked_as, outer_of}
 use Rattle.replay_script.specs.declared.state.Side.{Side}
 use Rattle.replay_script.specs.declared.state.State.{State}
 use Rattle.replay_script.specs.Conditions.{after, change_side, may_send, on_side, side_of, with_side}
 use Rattle.replay_run.specs.declared.slot.Slot.{Slot}
 use Rattle.replay_run.specs.declared.state.Replay.{Replay}
 use Rattle.replay_run.specs.Behind.{IsBehind, IsDue}
-use Rattle.replay_run.specs.Changes.{MayArrive, change_net, change_target, with_arrival, with_bytes, with_client_end, with_end, with_outcome, with_plan, with_room, with_target_end}
+use Rattle.replay_run.specs.Changes.{IsUnended, MayArrive, MayArriveAtTarget, change_net, change_target, with_arrival, with_bytes, with_client_end, with_end, with_found, with_lookup, with_outcome, with_plan, with_room, with_target_arrival, with_target_end}
 use Rattle.replay_run.specs.Mirrors.{HasUsers, IsGoing, IsSlot, Matches, Mirrors, TargetIs, TargetMirrors, record_of}
 use Rattle.replay_run.specs.Played.{Played}
 use Rattle.replay_run.proofs.Places.{IsPlace, IsSide, placed, place-within, side-open, sides-set}
@@ -66,6 +67,11 @@ gives-end l h = λ arrival given a g. first-of given l.arrived [] arrival.bytes 
 
 -- ---- an association that goes on
 
+-- what changes of a link that waits changes no lookup
+same-lookup : (f : LinkInMemory → LinkInMemory) (t : Option LinkInMemory) (net : NetInMemory) → (change_net f t net).lookup ≡ net.lookup
+same-lookup f None net = refl
+same-lookup f (Some link) net = refl
+
 -- bytes of the client, with room for them at the target
 is-room : (bytes : List ℕ) (link : LinkInMemory) (o : Outside) → TargetIs link o → TargetIs (with_room (length bytes) link) (record o { c = o.c ++ bytes })
 is-room bytes link o h = record {
@@ -103,7 +109,50 @@ going-arrives basis number bytes a net o h unended served = record {
   cap = h.cap;
   served = served;
   target = mirrors-room bytes a.target net o h.target;
-  quiet = record { t = h.quiet.t; grams = h.quiet.grams; peer = h.quiet.peer; no_room = h.quiet.no_room; faults = h.quiet.faults };
+  lookup = ap looked_as (same-lookup (with_room (length bytes)) a.target net) ∙ h.lookup;
+  quiet = record { grams = h.quiet.grams; peer = h.quiet.peer; no_room = h.quiet.no_room; faults = h.quiet.faults };
+}
+
+-- bytes of the target, with room for them at the client
+is-more : (bytes : List ℕ) (link : LinkInMemory) (o : Outside) → TargetIs link o → TargetIs (with_bytes bytes link) (record o { t = o.t ++ bytes })
+is-more bytes link o h = record { arrived = ap (λ z. z ++ bytes) h.arrived; ends = h.ends; unfailing = h.unfailing; cap = h.cap }
+
+mirrors-more : (bytes : List ℕ) (t : Option LinkInMemory) (net : NetInMemory) (o : Outside) → TargetMirrors t net o
+    → TargetMirrors (change_target (with_bytes bytes) t) (change_net (with_bytes bytes) t net) (record o { t = o.t ++ bytes })
+mirrors-more bytes None net o h = (is-more bytes net.link o h.0, h.1)
+mirrors-more bytes (Some link) net o h = is-more bytes link o h
+
+target-more : (bytes : List ℕ) (r : Record) (t : Option LinkInMemory) (net : NetInMemory) (o : Outside) → TargetMirrors t net o → o.end_t ≡ false → HoldsTarget told_of_link r t
+    → HoldsTarget told_of_link r (change_target (with_bytes bytes) t)
+target-more bytes r None net o m unended h = h
+target-more bytes r (Some link) net o m unended h = (
+  h.0,
+  holds-bytes bytes link r.t r.sent_t r.end_t r.shut_t h.1,
+  ends-none link (told_of_link (with_bytes bytes link)) refl (m.ends ∙ unended) h.2,
+  gives-bytes bytes link h.3,
+)
+
+going-target-arrives : (basis : Basis) (number : ℕ) (bytes : List ℕ) (a : Assoc LinkInMemory) (net : NetInMemory) (o : Outside) → IsGoing basis number a net o → o.end_t ≡ false
+    → IsSlot basis number (with_target_arrival bytes (Slot.Going a net)) (record o { t = o.t ++ bytes })
+going-target-arrives basis number bytes a net o h unended = record {
+  number' = h.number';
+  since = h.since;
+  stands = record {
+    plain = h.stands.plain;
+    direct = h.stands.direct;
+    client = holds-room (length bytes) a.client a.state.c a.state.sent_c a.state.end_c a.state.shut_c h.stands.client;
+    client_ends = h.stands.client_ends;
+    client_first = h.stands.client_first;
+    target = target-more bytes a.state a.target net o h.target unended h.stands.target;
+  };
+  arrived = h.arrived;
+  ends = h.ends;
+  unfailing = h.unfailing;
+  cap = let e = length-append o.t bytes in let k = h.cap in omega arith;
+  served = h.served;
+  target = mirrors-more bytes a.target net o h.target;
+  lookup = ap looked_as (same-lookup (with_bytes bytes) a.target net) ∙ h.lookup;
+  quiet = record { grams = h.quiet.grams; peer = h.quiet.peer; no_room = h.quiet.no_room; faults = h.quiet.faults };
 }
 
 -- the client's end
@@ -130,7 +179,8 @@ going-ends basis number a net o h unended = record {
   cap = h.cap;
   served = h.served;
   target = mirrors-closed a.target net o h.target;
-  quiet = record { t = h.quiet.t; grams = h.quiet.grams; peer = h.quiet.peer; no_room = h.quiet.no_room; faults = h.quiet.faults };
+  lookup = h.lookup;
+  quiet = record { grams = h.quiet.grams; peer = h.quiet.peer; no_room = h.quiet.no_room; faults = h.quiet.faults };
 }
 
 -- the target's end
@@ -171,7 +221,32 @@ going-target-ends basis number a net o h unended = record {
   cap = h.cap;
   served = h.served;
   target = mirrors-end a.target net o h.target;
-  quiet = record { t = h.quiet.t; grams = h.quiet.grams; peer = h.quiet.peer; no_room = h.quiet.no_room; faults = h.quiet.faults };
+  lookup = ap looked_as (same-lookup with_end a.target net) ∙ h.lookup;
+  quiet = record { grams = h.quiet.grams; peer = h.quiet.peer; no_room = h.quiet.no_room; faults = h.quiet.faults };
+}
+
+-- how a lookup comes out
+is-found : (link : LinkInMemory) (o : Outside) (outer : Outer) → TargetIs link o → TargetIs link (record o { lookup = outer })
+is-found link o outer h = record { arrived = h.arrived; ends = h.ends; unfailing = h.unfailing; cap = h.cap }
+
+mirrors-found : (outcome : Lookup) (outer : Outer) (t : Option LinkInMemory) (net : NetInMemory) (o : Outside) → TargetMirrors t net o → TargetMirrors t (with_found outcome net) (record o { lookup = outer })
+mirrors-found outcome outer None net o h = (is-found net.link o outer h.0, h.1)
+mirrors-found outcome outer (Some link) net o h = is-found link o outer h
+
+going-looked : (basis : Basis) (number : ℕ) (outcome : Lookup) (outer : Outer) (a : Assoc LinkInMemory) (net : NetInMemory) (o : Outside) → looked_as outcome ≡ outer
+    → IsGoing basis number a net o → IsSlot basis number (with_lookup outcome (Slot.Going a net)) (record o { lookup = outer })
+going-looked basis number outcome outer a net o same h = record {
+  number' = h.number';
+  since = h.since;
+  stands = h.stands;
+  arrived = h.arrived;
+  ends = h.ends;
+  unfailing = h.unfailing;
+  cap = h.cap;
+  served = h.served;
+  target = mirrors-found outcome outer a.target net o h.target;
+  lookup = same;
+  quiet = record { grams = h.quiet.grams; peer = h.quiet.peer; no_room = h.quiet.no_room; faults = h.quiet.faults };
 }
 
 -- how the next dial comes out
@@ -195,7 +270,8 @@ going-planned basis number outcome outer a net o same h = record {
   cap = h.cap;
   served = h.served;
   target = mirrors-plan outcome outer a.target net o same h.target;
-  quiet = record { t = h.quiet.t; grams = h.quiet.grams; peer = h.quiet.peer; no_room = h.quiet.no_room; faults = h.quiet.faults };
+  lookup = h.lookup;
+  quiet = record { grams = h.quiet.grams; peer = h.quiet.peer; no_room = h.quiet.no_room; faults = h.quiet.faults };
 }
 
 -- ---- the place of a line's association
@@ -289,7 +365,7 @@ changed users script lines state old slots l number test outside side slot b h a
     there = subst (λ (n : ℕ). slots ≡ slice_set old.slots n (slot p.slot)) at
         (written p.slot (subst (λ (n : ℕ). slice_get old.slots n ≡ Some p.slot) (sym at) p.slot-at))
 
--- ---- the four lines
+-- ---- the five lines
 
 pub send-allowed : (users : List User) (bytes : List ℕ) (x : Side) → may_send users bytes x ≡ true → (x.end_c ≡ false) × (is_served_input users (x.c ++ bytes) ≡ true)
 send-allowed users bytes x h =
@@ -318,6 +394,37 @@ client-changes basis users number bytes same = record {
     by-slot n x o Slot.Away i t h = absurd h
 
     by-record : (y : Slot) → record_of (with_arrival bytes y) ≡ record_of y
+    by-record (Slot.Going a net) = refl
+    by-record (Slot.Over e) = refl
+    by-record Slot.Away = refl
+
+-- the reader's state has no bytes of a target
+unchanged : (state : State) (number : ℕ) → state ≡ change_side state number (λ x. x)
+unchanged state zero = refl
+unchanged state (suc k) = by (slice_get state.sides k) refl
+  where
+    by : (x : Option Side) → slice_get state.sides k ≡ x → state ≡ with_side state (suc k) (λ x. x) x
+    by None at = refl
+    by (Some side) at = let e : k ≡ suc k - 1 = omega arith in
+        ap (λ (xs : List Side). let y : State = record state { sides = xs } in y) (sym (set-same state.sides k side at) ∙ ap (λ (m : ℕ). slice_set state.sides m side) e)
+
+pub target-changes : (basis : Basis) (number : ℕ) (bytes : List ℕ)
+    → Changes basis (ScriptLine.Target number bytes) number (λ x. not x.end_t) (λ o. record o { t = o.t ++ bytes }) (λ x. x) (with_target_arrival bytes)
+target-changes basis number bytes = record {
+  silent = λ w. refl;
+  outside' = λ s. refl;
+  state' = λ state. unchanged state number;
+  is = λ x o i. i;
+  stands = by-slot;
+  record' = by-record;
+}
+  where
+    by-slot : (n : ℕ) (x : Side) (o : Outside) (y : Slot) → IsSide x o → not x.end_t ≡ true → IsSlot basis n y o → IsSlot basis n (with_target_arrival bytes y) (record o { t = o.t ++ bytes })
+    by-slot n x o (Slot.Going a net) i t h = going-target-arrives basis n bytes a net o h (sym i.2 ∙ not-true x.end_t t)
+    by-slot n x o (Slot.Over e) i t h = h
+    by-slot n x o Slot.Away i t h = absurd h
+
+    by-record : (y : Slot) → record_of (with_target_arrival bytes y) ≡ record_of y
     by-record (Slot.Going a net) = refl
     by-record (Slot.Over e) = refl
     by-record Slot.Away = refl
@@ -364,6 +471,27 @@ target-end-changes basis number = record {
     by-record (Slot.Over e) = refl
     by-record Slot.Away = refl
 
+pub lookup-changes : (basis : Basis) (number : ℕ) (outer : Outer) (outcome : Lookup) → looked_as outcome ≡ outer
+    → Changes basis (ScriptLine.Lookup number outer) number (λ x. not x.looked) (λ o. record o { lookup = outer }) (λ x. record x { looked = true }) (with_lookup outcome)
+lookup-changes basis number outer outcome same = record {
+  silent = λ w. refl;
+  outside' = λ s. refl;
+  state' = λ state. refl;
+  is = λ x o i. i;
+  stands = by-slot;
+  record' = by-record;
+}
+  where
+    by-slot : (n : ℕ) (x : Side) (o : Outside) (y : Slot) → IsSide x o → not x.looked ≡ true → IsSlot basis n y o → IsSlot basis n (with_lookup outcome y) (record o { lookup = outer })
+    by-slot n x o (Slot.Going a net) i t h = going-looked basis n outcome outer a net o same h
+    by-slot n x o (Slot.Over e) i t h = h
+    by-slot n x o Slot.Away i t h = absurd h
+
+    by-record : (y : Slot) → record_of (with_lookup outcome y) ≡ record_of y
+    by-record (Slot.Going a net) = refl
+    by-record (Slot.Over e) = refl
+    by-record Slot.Away = refl
+
 pub dial-changes : (basis : Basis) (number : ℕ) (outer : Outer) (outcome : DialOutcome) → outer_of outcome ≡ outer
     → Changes basis (ScriptLine.Dial number outer) number (λ x. not x.dialled) (λ o. record o { dial = outer }) (λ x. record x { dialled = true }) (with_plan outcome)
 dial-changes basis number outer outcome same = record {
@@ -401,5 +529,28 @@ may-arrive basis users number bytes sides os slots p slot found = subst MayArriv
 
     by-slot : (y : Slot) → IsSlot basis (suc p.k) y p.o → MayArrive y
     by-slot (Slot.Going a net) h = h.ends ∙ (sym p.is.1 ∙ (send-allowed users bytes p.side p.passes).0)
+    by-slot (Slot.Over e) h = tt
+    by-slot Slot.Away h = absurd h
+
+-- more can arrive from the target at the place of its line
+pub may-arrive-at-target : (basis : Basis) (number : ℕ) (sides : List Side) (os : List Outside) (slots : List Slot) → IsPlace basis number (λ x. not x.end_t) sides os slots
+    → (slot : Slot) → slice_get slots (number - 1) ≡ Some slot → MayArriveAtTarget slot
+may-arrive-at-target basis number sides os slots p slot found = subst MayArriveAtTarget same (by-slot p.slot p.stands)
+  where
+    at : number - 1 ≡ p.k
+    at = let e = p.number' in omega arith
+
+    found' : slice_get slots p.k ≡ Some slot
+    found' = subst (λ (n : ℕ). slice_get slots n ≡ Some slot) at found
+
+    same : p.slot ≡ slot
+    same = cc (p.slot-at, found')
+
+    unended : (t : Option LinkInMemory) (net : NetInMemory) → TargetMirrors t net p.o → p.o.end_t ≡ false → IsUnended t net
+    unended None net m e = m.0.ends ∙ e
+    unended (Some link) net m e = m.ends ∙ e
+
+    by-slot : (y : Slot) → IsSlot basis (suc p.k) y p.o → MayArriveAtTarget y
+    by-slot (Slot.Going a net) h = unended a.target net h.target (sym p.is.2 ∙ not-true p.side.end_t p.passes)
     by-slot (Slot.Over e) h = tt
     by-slot Slot.Away h = absurd h

@@ -1,5 +1,5 @@
 -- Who the users of a script are, as far as its lines have been read.
-use Rattle.std.proofs.Common.{ℕ, ◌≡◌, ◌<◌, ◌+◌, ◌-◌, ◌∙◌, sym, ap, subst, refl, Bool, true, false, not, ◌&&◌, ◌==◌, ◌⊎◌, inl, inr, Option, Some, None, List, [], ◌∷◌, ◌++◌, length, arith, length-append}
+use Rattle.std.proofs.Common.{ℕ, ◌≡◌, ◌<◌, ◌-◌, ◌∙◌, sym, ap, subst, refl, Bool, true, false, not, ◌&&◌, ◌==◌, ◌⊎◌, inl, inr, Option, Some, None, List, [], ◌∷◌, length, arith, length-append}
 use Rattle.std.proofs.lemmas.Bool.{and_parts, not-true, eqb-true}
 use Rattle.std.proofs.lemmas.List.{length-set}
 use Rattle.addr_pattern.specs.declared.endpoint.Endpoint.{Endpoint}
@@ -64,10 +64,10 @@ gives-or-leaves state (ScriptLine.Publish k) form = inr (record { users = refl; 
 gives-or-leaves state (ScriptLine.See w) form = inr (record { users = refl; given' = refl; open' = λ h. h; others = λ rest. refl })
 gives-or-leaves state (ScriptLine.Open w a peer local) form = inr (leaves-open state w a peer local)
 gives-or-leaves state (ScriptLine.Client a bytes) form = inr (leaves-changed state (ScriptLine.Client a bytes) a _ refl (λ rest. refl))
-gives-or-leaves state (ScriptLine.Target a bytes) form = absurd form
+gives-or-leaves state (ScriptLine.Target a bytes) form = inr (record { users = refl; given' = refl; open' = λ h. h; others = λ rest. refl })
 gives-or-leaves state (ScriptLine.ClientEnd a) form = inr (leaves-changed state (ScriptLine.ClientEnd a) a _ refl (λ rest. refl))
 gives-or-leaves state (ScriptLine.TargetEnd a) form = inr (leaves-changed state (ScriptLine.TargetEnd a) a _ refl (λ rest. refl))
-gives-or-leaves state (ScriptLine.Lookup a outer) form = absurd form
+gives-or-leaves state (ScriptLine.Lookup a outer) form = inr (leaves-changed state (ScriptLine.Lookup a outer) a _ refl (λ rest. refl))
 gives-or-leaves state (ScriptLine.Dial a outer) form = inr (leaves-changed state (ScriptLine.Dial a outer) a _ refl (λ rest. refl))
 gives-or-leaves state (ScriptLine.Door a outer) form = absurd form
 gives-or-leaves state (ScriptLine.Peer a peer) form = absurd form

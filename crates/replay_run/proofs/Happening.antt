@@ -77,6 +77,7 @@ slots-later users pubs k number (slot ∷ slots) (o ∷ os) h = (slot-later numb
       cap = h.cap;
       served = h.served;
       target = h.target;
+      lookup = h.lookup;
       quiet = h.quiet;
     }
     slot-later n (Slot.Over e) o h = h
@@ -239,7 +240,8 @@ opened-is basis number peer local = record {
   cap = omega arith;
   served = refl;
   target = (record { arrived = refl; ends = refl; unfailing = refl; cap = omega arith }, refl);
-  quiet = record { t = refl; grams = refl; peer = refl; no_room = refl; faults = refl };
+  lookup = refl;
+  quiet = record { grams = refl; peer = refl; no_room = refl; faults = refl };
 }
 
 open-step : (w : World) (seen : ℕ) (number : ℕ) (peer local : Endpoint) → w.seen ≡ seen_by_workers seen → (number == length w.records + 1) ≡ true

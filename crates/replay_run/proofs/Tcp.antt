@@ -1,5 +1,5 @@
 -- A record that is served is none of datagrams.
-use Rattle.std.proofs.Common.{◌≡◌, ap, refl, true, false, None, List, [], ◌∷◌}
+use Rattle.std.proofs.Common.{◌≡◌, ap, refl, true, false, Some, None, List, [], ◌∷◌}
 use Rattle.conf_model.specs.declared.protocol.Command.{Command}
 use Rattle.conf_model.specs.declared.user.User.{User}
 use Rattle.socks_machine.specs.declared.record.Decision.{Decision}
@@ -16,6 +16,9 @@ plain-tcp users r plain = by r.decisions plain.decided
     by : (ds : List Decision) → HasDecided users r ds → is_udp (record r { decisions = ds }) ≡ false
     by [] h = refl
     by (Decision.Opened g rule None ∷ []) h = refl
+    by (Decision.Opened g rule None ∷ Decision.Looked name found ∷ []) h = refl
     by (Decision.Opened g rule None ∷ Decision.Granted g' facts verdict route refused ∷ []) h = by-command facts.command h.command
+    by (Decision.Opened g rule None ∷ Decision.Looked name (Some a) ∷ Decision.Granted g' facts verdict route refused ∷ []) h = by-command facts.command h.command
     by (Decision.Opened g rule None ∷ Decision.Granted g' facts verdict route None ∷ Decision.Reached to at ∷ []) h = by-command facts.command h.command
+    by (Decision.Opened g rule None ∷ Decision.Looked name (Some a) ∷ Decision.Granted g' facts verdict route None ∷ Decision.Reached to at ∷ []) h = by-command facts.command h.command
     by _ h = absurd h

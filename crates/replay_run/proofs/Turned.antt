@@ -1,5 +1,5 @@
 -- The world behind a turn, and that the replay still holds what it is.
-use Rattle.std.proofs.Common.{ℕ, zero, suc, ◌≡◌, ◌≤◌, ◌+◌, ◌∙◌, sym, ap, subst, refl, Bool, true, false, Option, Some, None, is_some, List, [], ◌∷◌, map, arith, slice_set}
+use Rattle.std.proofs.Common.{ℕ, zero, suc, ◌≡◌, ◌≤◌, ◌+◌, ◌∙◌, sym, ap, subst, refl, Bool, true, false, Option, Some, None, is_some, List, [], ◌∷◌, length, map, arith, slice_set}
 use Rattle.std.specs.Prelude.{slice_get, unwrap_or}
 use Rattle.conf_model.specs.declared.config.Config.{Config}
 use Rattle.conf_model.specs.declared.user.User.{User}
@@ -30,7 +30,8 @@ use Rattle.socks_machine.specs.Calls.{Context}
 use Rattle.socks_machine.specs.Decisions.{reached_at}
 use Rattle.assoc_core.specs.Plain.{IsPlainRecord}
 use Rattle.assoc_core.specs.Stands.{GoesDirect, Holds, HoldsTarget}
-use Rattle.assoc_core.specs.Turns.{PlanStays, SameTarget, outer_of}
+use Rattle.net_ends.specs.declared.net.Lookup.{Lookup}
+use Rattle.assoc_core.specs.Turns.{PlanStays, SameTarget, looked_as, outer_of}
 use Rattle.replay_run.specs.Mirrors.{Mirrors, AreSlots, IsGoing, IsSlot, TargetIs, TargetMirrors, record_of, seen_by_workers}
 use Rattle.replay_run.specs.Taken.{slot_of}
 use Rattle.replay_run.proofs.Outsides.{same-arrived, same-ends, same-cap, same-target-is, target-behind}
@@ -113,9 +114,10 @@ still-going basis n a a' net net' o next s stands' h over t is plain = subst (λ
   arrived = same-arrived a.client (left_of next).client t.same_client ∙ h.arrived;
   ends = same-ends a.client (left_of next).client t.same_client ∙ h.ends;
   unfailing = t.same_client.unfailing ∙ h.unfailing;
-  cap = subst (λ (m : ℕ). 64 ≤ m) (sym (same-cap a.client (left_of next).client t.same_client)) h.cap;
+  cap = subst (λ (m : ℕ). 64 + length o.t ≤ m) (sym (same-cap a.client (left_of next).client t.same_client)) h.cap;
   served = h.served;
   target = target-still a.target (left_of next).target net net' o t.result.left t.acts.outer h.target t.same_target t.target t.plan';
+  lookup = ap (λ (p : Option Lookup). elim p [ Some x ↦ looked_as x | None ↦ o.lookup ]) t.lookup_plan ∙ h.lookup;
   quiet = h.quiet;
 })
 

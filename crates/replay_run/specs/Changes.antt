@@ -2,6 +2,7 @@
 use Rattle.std.specs.Prelude.{◌≡◌, ◌+◌, ℕ, true, false, Option, Some, None, List, ◌++◌, length}
 use Rattle.addr_pattern.specs.declared.endpoint.Endpoint.{Endpoint}
 use Rattle.net_ends.specs.InMemory.{LinkInMemory, NetInMemory, fresh_link, fresh_net}
+use Rattle.net_ends.specs.declared.net.Lookup.{Lookup}
 use Rattle.net_ends.specs.Nets.{DialOutcome}
 use Rattle.socks_machine.specs.Step.{fresh}
 use Rattle.replay_run.specs.declared.slot.Slot.{Slot}
@@ -24,6 +25,9 @@ with_bytes bytes link = record link { arrived = link.arrived ++ bytes }
 abbrev pub with_end : LinkInMemory → LinkInMemory
 with_end link = record link { ends = true }
 
+abbrev pub with_found : Lookup → NetInMemory → NetInMemory
+with_found outcome net = record net { lookup = outcome }
+
 abbrev pub with_outcome : DialOutcome → NetInMemory → NetInMemory
 with_outcome outcome net = record net { outcome = outcome }
 
@@ -32,6 +36,12 @@ abbrev pub with_arrival : List ℕ → Slot → Slot
 with_arrival bytes (Slot.Going a net) = Slot.Going (record a { client = with_bytes bytes a.client; target = change_target (with_room (length bytes)) a.target })
     (change_net (with_room (length bytes)) a.target net)
 with_arrival bytes slot = slot
+
+-- bytes of the target, and room for them on their way to the client
+abbrev pub with_target_arrival : List ℕ → Slot → Slot
+with_target_arrival bytes (Slot.Going a net) = Slot.Going (record a { client = with_room (length bytes) a.client; target = change_target (with_bytes bytes) a.target })
+    (change_net (with_bytes bytes) a.target net)
+with_target_arrival bytes slot = slot
 
 abbrev pub with_client_end : Slot → Slot
 with_client_end (Slot.Going a net) = Slot.Going (record a { client = with_end a.client }) net
@@ -45,10 +55,23 @@ abbrev pub with_plan : DialOutcome → Slot → Slot
 with_plan outcome (Slot.Going a net) = Slot.Going a (with_outcome outcome net)
 with_plan outcome slot = slot
 
+abbrev pub with_lookup : Lookup → Slot → Slot
+with_lookup outcome (Slot.Going a net) = Slot.Going a (with_found outcome net)
+with_lookup outcome slot = slot
+
 -- more can arrive from the client
 abbrev pub MayArrive : Slot → Type 0
 MayArrive (Slot.Going a net) = a.client.ends ≡ false
 MayArrive slot = Unit {0}
+
+-- more can arrive at the target's link, where it is there, and else at the one that waits in the net
+abbrev pub IsUnended : Option LinkInMemory → NetInMemory → Type 0
+IsUnended None net = net.link.ends ≡ false
+IsUnended (Some link) net = link.ends ≡ false
+
+abbrev pub MayArriveAtTarget : Slot → Type 0
+MayArriveAtTarget (Slot.Going a net) = IsUnended a.target net
+MayArriveAtTarget slot = Unit {0}
 
 -- room for all replies of the proxy
 abbrev pub room_for_replies : ℕ

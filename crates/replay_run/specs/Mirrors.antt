@@ -1,5 +1,5 @@
 -- What a replay holds, beside the world and the outside of its script.
-use Rattle.std.specs.Prelude.{ℕ, suc, ◌≡◌, ◌<◌, ◌≤◌, true, false, Option, Some, None, List, [], ◌∷◌, length, map, All}
+use Rattle.std.specs.Prelude.{ℕ, suc, ◌≡◌, ◌<◌, ◌≤◌, ◌+◌, true, false, Option, Some, None, List, [], ◌∷◌, length, map, All}
 use Rattle.addr_pattern.specs.declared.addr.Addr.{Addr}
 use Rattle.addr_pattern.specs.declared.endpoint.Endpoint.{Endpoint}
 use Rattle.conf_model.specs.declared.config.Config.{Config}
@@ -20,7 +20,7 @@ use Rattle.socks_machine.specs.Script.{Outside, Surroundings}
 use Rattle.socks_machine.specs.Step.{basis_of, fresh}
 use Rattle.assoc_core.specs.declared.assoc.Assoc.{Assoc}
 use Rattle.assoc_core.specs.Stands.{Stands}
-use Rattle.assoc_core.specs.Turns.{outer_of}
+use Rattle.assoc_core.specs.Turns.{looked_as, outer_of}
 use Rattle.replay_run.specs.declared.slot.Slot.{Slot}
 use Rattle.replay_script.specs.declared.state.Side.{Side}
 use Rattle.replay_script.specs.declared.state.State.{State}
@@ -29,7 +29,6 @@ use Rattle.replay_script.specs.declared.state.State.{State}
 
 -- what no line that is served changes
 pub record Quiet (o : Outside) : Type 0 where
-  pub t : o.t ≡ []
   pub grams : o.grams ≡ []
   pub peer : o.peer ≡ None
   pub no_room : o.no_room ≡ []
@@ -47,6 +46,7 @@ abbrev pub TargetMirrors : Option LinkInMemory → NetInMemory → Outside → T
 TargetMirrors None net o = TargetIs net.link o × (outer_of net.outcome ≡ o.dial)
 TargetMirrors (Some link) net o = TargetIs link o
 
+-- the client's link has room for all replies and for all that arrives from the target, and a lookup comes out as the script says
 pub record IsGoing (basis : Basis) (number : ℕ) (a : Assoc LinkInMemory) (net : NetInMemory) (o : Outside) : Type 0 where
   pub number' : a.state.number ≡ number
   pub since : a.state.since ≡ 0
@@ -54,9 +54,10 @@ pub record IsGoing (basis : Basis) (number : ℕ) (a : Assoc LinkInMemory) (net 
   pub arrived : a.client.arrived ≡ o.c
   pub ends : a.client.ends ≡ o.end_c
   pub unfailing : a.client.unfailing ≡ true
-  pub cap : 64 ≤ a.client.cap
+  pub cap : 64 + length o.t ≤ a.client.cap
   pub served : is_served_input basis.users o.c ≡ true
   pub target : TargetMirrors a.target net o
+  pub lookup : looked_as net.lookup ≡ o.lookup
   pub quiet : Quiet o
 
 abbrev pub IsSlot : Basis → ℕ → Slot → Outside → Type 0

@@ -1,14 +1,14 @@
 ghost use Rattle.std.specs.Prelude.{◌≡◌, IfOk, List as Items};
 ghost use Rattle.conf_model.specs.declared.user.User.{User as SomeUser};
 ghost use Rattle.net_ends.specs.Plans.{planned};
-ghost use Rattle.socks_machine.specs.declared.script.ScriptLine.TheVariants.{Client, ClientEnd, TargetEnd, Dial};
-ghost use Rattle.replay_script.specs.Conditions.{IsServedOutcome};
-ghost use Rattle.assoc_core.specs.Turns.{outer_of};
+ghost use Rattle.socks_machine.specs.declared.script.ScriptLine.TheVariants.{Client, Target, ClientEnd, TargetEnd, Lookup as LookupLine, Dial};
+ghost use Rattle.replay_script.specs.Conditions.{IsServedLookup, IsServedOutcome};
+ghost use Rattle.assoc_core.specs.Turns.{looked_as, outer_of};
 ghost use Rattle.replay_run.specs.Behind.{GoesBehind, IsDue};
 
 use crate::slot::Slot;
 use crate::state::Replay;
-use net_ends::DialPlan;
+use net_ends::{DialPlan, Lookup};
 use socks_machine::Outer;
 use std::alloc::AllocError;
 
@@ -25,6 +25,17 @@ fn plan_of(outer: Outer) -> DialPlan
     }
 }
 
+/// The outcome of a lookup that is to come out so.
+fn found_of(outer: Outer) -> Lookup
+    ensures { IsServedLookup outer → looked_as result ≡ outer }
+{
+    match outer {
+        Outer::Looked(Some(addr)) => Lookup::Found(addr),
+        Outer::Failed => Lookup::Failed,
+        _ => Lookup::NotFound,
+    }
+}
+
 impl Replay {
     /// The line `client`.
     pub fn client(&mut self, number: u64, bytes: &[u8]) -> Result<(), AllocError>
@@ -34,6 +45,18 @@ impl Replay {
         let at = (number - 1) as usize;
         let mut slot = self.slots.replace(at, Slot::Away);
         let arrived = slot.arrive(bytes);
+        self.slots.set(at, slot);
+        arrived
+    }
+
+    /// The line `target`.
+    pub fn target(&mut self, number: u64, bytes: &[u8]) -> Result<(), AllocError>
+        requires due { IsDue (Target number bytes.now) self.old }
+        ensures { IfOk result (λ _. (users : Items SomeUser) → GoesBehind users (Target number bytes.now) self.old self.new) }
+    {
+        let at = (number - 1) as usize;
+        let mut slot = self.slots.replace(at, Slot::Away);
+        let arrived = slot.arrive_from_target(bytes);
         self.slots.set(at, slot);
         arrived
     }
@@ -57,6 +80,17 @@ impl Replay {
         let at = (number - 1) as usize;
         let mut slot = self.slots.replace(at, Slot::Away);
         slot.end_target();
+        self.slots.set(at, slot);
+    }
+
+    /// The line `lookup`.
+    pub fn lookup(&mut self, number: u64, outer: Outer)
+        requires due { IsDue (LookupLine number outer) self.old }
+        ensures { (users : Items SomeUser) → GoesBehind users (LookupLine number outer) self.old self.new }
+    {
+        let at = (number - 1) as usize;
+        let mut slot = self.slots.replace(at, Slot::Away);
+        slot.plan_lookup(found_of(outer));
         self.slots.set(at, slot);
     }
 

@@ -81,8 +81,10 @@ impl Replay {
             ScriptLine::See(_) => self.see(alloc)?,
             ScriptLine::Open(_, number, peer, local) => self.open(alloc, *number, *peer, *local)?,
             ScriptLine::Client(number, bytes) => self.client(*number, bytes.as_slice())?,
+            ScriptLine::Target(number, bytes) => self.target(*number, bytes.as_slice())?,
             ScriptLine::ClientEnd(number) => self.client_end(*number),
             ScriptLine::TargetEnd(number) => self.target_end(*number),
+            ScriptLine::Lookup(number, outer) => self.lookup(*number, *outer),
             ScriptLine::Dial(number, outer) => self.dial(*number, *outer),
             ScriptLine::Turn(_, number) => self.turn(alloc, users, *number)?,
             _ => {}

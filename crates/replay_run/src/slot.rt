@@ -1,9 +1,9 @@
 ghost use Rattle.std.specs.Prelude.{◌≡◌, IfOk};
 ghost use Rattle.net_ends.specs.Plans.{planned};
-ghost use Rattle.replay_run.specs.Changes.{MayArrive, change_net, change_target, with_arrival, with_client_end, with_plan, with_room, with_target_end};
+ghost use Rattle.replay_run.specs.Changes.{IsUnended, MayArrive, MayArriveAtTarget, change_net, change_target, with_arrival, with_bytes, with_client_end, with_lookup, with_plan, with_room, with_target_arrival, with_target_end};
 
 use assoc_core::{Assoc, Ended};
-use net_ends::{DialPlan, MemLink, MemNet};
+use net_ends::{DialPlan, Lookup, MemLink, MemNet};
 use std::alloc::AllocError;
 
 /// An association of a replay, with the net that it dials.
@@ -30,6 +30,26 @@ fn spare(target: &mut Option<MemLink>, net: &mut MemNet, further: usize) -> Resu
     }
 }
 
+/// Bytes arrive at the target's link, where it is there, and else at the one that waits in the net.
+fn arrive_there(
+    target: &mut Option<MemLink>,
+    net: &mut MemNet,
+    bytes: &[u8],
+) -> Result<(), AllocError>
+    requires { IsUnended target.old net.old }
+    ensures target { IfOk result (λ _. target.new ≡ change_target (with_bytes bytes.now) target.old) }
+    ensures net { IfOk result (λ _. net.new ≡ change_net (with_bytes bytes.now) target.old net.old) }
+{
+    let arrived = match target {
+        None => net.arrive(bytes),
+        Some(link) => link.arrive(bytes),
+    };
+    match arrived {
+        Ok(()) => Ok(()),
+        Err(_) => Err(AllocError),
+    }
+}
+
 impl Slot {
     /// Bytes of the client arrive, and the target's link gets room for them.
     pub fn arrive(&mut self, bytes: &[u8]) -> Result<(), AllocError>
@@ -39,6 +59,20 @@ impl Slot {
         match self {
             Slot::Going { assoc, net } => match assoc.client.arrive(bytes) {
                 Ok(()) => spare(&mut assoc.target, net, bytes.len()),
+                Err(_) => Err(AllocError),
+            },
+            _ => Ok(()),
+        }
+    }
+
+    /// Bytes of the target arrive, and the client's link gets room for them.
+    pub fn arrive_from_target(&mut self, bytes: &[u8]) -> Result<(), AllocError>
+        requires { MayArriveAtTarget self.old }
+        ensures { IfOk result (λ _. self.new ≡ with_target_arrival bytes.now self.old) }
+    {
+        match self {
+            Slot::Going { assoc, net } => match assoc.client.spare(bytes.len()) {
+                Ok(()) => arrive_there(&mut assoc.target, net, bytes),
                 Err(_) => Err(AllocError),
             },
             _ => Ok(()),
@@ -64,6 +98,16 @@ impl Slot {
                 None => net.end(),
                 Some(link) => link.end(),
             },
+            _ => {}
+        }
+    }
+
+    /// A lookup comes out so.
+    pub fn plan_lookup(&mut self, outcome: Lookup)
+        ensures { self.new ≡ with_lookup outcome self.old }
+    {
+        match self {
+            Slot::Going { assoc, net } => net.plan_lookup(outcome),
             _ => {}
         }
     }

@@ -9,11 +9,17 @@ use Rattle.replay_run.proofs.state.Replay.line.Goals as goal
 pub client-requires : goal.client-requires
 client-requires c = record { due = due-as c.args.line.now _ c.args.self.now (c.in-Client.is ∙ ap (ScriptLine.Client c.in-Client.number) (sym c.as_slice.ensures)) c.requires.due }
 
+pub target-requires : goal.target-requires
+target-requires c = record { due = due-as c.args.line.now _ c.args.self.now (c.in-Target.is ∙ ap (ScriptLine.Target c.in-Target.number) (sym c.as_slice-in-Target.ensures)) c.requires.due }
+
 pub client_end-requires : goal.client_end-requires
 client_end-requires c = record { due = due-as c.args.line.now _ c.args.self.now (c.in-ClientEnd.is) c.requires.due }
 
 pub target_end-requires : goal.target_end-requires
 target_end-requires c = record { due = due-as c.args.line.now _ c.args.self.now (c.in-TargetEnd.is) c.requires.due }
+
+pub lookup-requires : goal.lookup-requires
+lookup-requires c = record { due = due-as c.args.line.now _ c.args.self.now (c.in-Lookup.is) c.requires.due }
 
 pub dial-requires : goal.dial-requires
 dial-requires c = record { due = due-as c.args.line.now _ c.args.self.now (c.in-Dial.is) c.requires.due }
