@@ -6,7 +6,9 @@ mod checks;
 mod decisions;
 mod failures;
 mod logins;
+mod names;
 mod refusals;
+mod relays;
 mod rows;
 
 /// Line 1 to 6 of a script: everything passes.
@@ -49,6 +51,17 @@ client 1 050005000001c00002099c40
 target 1 -
 end 1 finished
 ";
+
+/// The first lines of the transcript of a client that is let in.
+const LET_IN: &str = "\
+publish 1
+see 1 1
+open 1 1
+turn 1 1 gen 1 took 0 0 sent 0 0 again
+";
+
+/// A client is there.
+const OPEN: &str = "open 1 1 10.0.0.5:5000 127.0.0.1:1080\n";
 
 /// Which calls of the ends fail: the read and the write of these numbers, and what doesn't fit.
 #[derive(Clone, Copy)]
@@ -134,4 +147,12 @@ fn replays(
             ran.status == status && ran.out.taken() == out && ran.err.taken() == err.as_bytes()
         }
     }
+}
+
+/// Whether a script of this client has this transcript.
+fn shows(alloc: Global, before: &str, lines: &str, transcript: &str) -> Option<bool> {
+    let mut expected = String::from_str(alloc, LET_IN).ok()?;
+    expected.push_str(transcript).ok()?;
+    let script = [before, OPEN, lines];
+    Some(replays(alloc, &script, NO_TROUBLE, 0, expected.as_bytes(), ""))
 }

@@ -28,16 +28,6 @@ socks pass { from: 0/0 to: 0/0 }
 see 1
 ";
 
-/// The first lines of each transcript.
-const LET_IN: &str = "\
-publish 1
-see 1 1
-open 1 1
-turn 1 1 gen 1 took 0 0 sent 0 0 again
-";
-
-const OPEN: &str = "open 1 1 10.0.0.5:5000 127.0.0.1:1080\n";
-
 /// What is shown, the lines before, those behind `open`, and the transcript behind the turn that lets the client in.
 const CLIENTS: &[[&str; 4]] = &[
     [
@@ -301,14 +291,6 @@ end 1 finished
 ",
     ],
 ];
-
-/// Whether a script of this client has this transcript.
-fn shows(alloc: Global, before: &str, lines: &str, transcript: &str) -> Option<bool> {
-    let mut expected = String::from_str(alloc, LET_IN).ok()?;
-    expected.push_str(transcript).ok()?;
-    let script = [before, OPEN, lines];
-    Some(replays(alloc, &script, NO_TROUBLE, 0, expected.as_bytes(), ""))
-}
 
 #[test]
 fn clients(rt: HostRuntime) {

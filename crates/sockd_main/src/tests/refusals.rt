@@ -14,8 +14,6 @@ client pass { from: 0/0 to: 0/0 }
 socks pass { from: 0/0 to: 0/0 }
 ";
 
-const OPEN: &str = "open 1 1 10.0.0.5:5000 127.0.0.1:1080\n";
-
 /// A user `abc` whose password is `abc`, as a users file has it.
 const ABC: &str = "abc:ba7816bf8f01cfea414140de5dae2223b00361a396177a9cb410ff61f20015ad\n";
 
@@ -146,15 +144,21 @@ const LINES: &[&str] = &[
     "client 1 4g\n",
     "client 1 05010005020001010203040050\n",
     "client 1 05010005030001010203040050\n",
-    "client 1 0501000501000306612e746573740050\n",
+    "client 1 0501000502000306612e746573740050\n",
+    "client 1 0501000503000306612e746573740050\n",
     "client 1 040200500102030400\n",
-    "client 1 040100500000000100612e7465737400\n",
+    "client 1 040200500000000100612e7465737400\n",
     "clientend 2\n",
     "users 0\n",
     "targetend 2\n",
-    "target 1 00\n",
+    "target 2 00\n",
+    "target 1 \n",
+    "target 1 0g\n",
+    "lookup 2 none\n",
+    "lookup 1 a.test\n",
+    "lookup 1 [::1]\n",
     "dial 2 refused\n",
-    "dial 1 host\n",
+    "dial 1 hosts\n",
     "dial 1 up [::1]\n",
     "dial 1 up\n",
     "now 1\n",
@@ -218,6 +222,18 @@ const ORDERS: &[(&[&str], &str)] = &[
     ),
     (
         &[PASSES, OPEN, "targetend 1\n", "targetend 1\n"],
+        "sockd: script line 9: not built\n",
+    ),
+    (
+        &[PASSES, OPEN, "targetend 1\n", "target 1 00\n"],
+        "sockd: script line 9: not built\n",
+    ),
+    (
+        &[PASSES, OPEN, "lookup 1 ::1\n", "lookup 1 none\n"],
+        "sockd: script line 9: not built\n",
+    ),
+    (
+        &[PASSES, OPEN, "dial 1 host\n", "dial 1 net\n"],
         "sockd: script line 9: not built\n",
     ),
     (
@@ -293,14 +309,14 @@ fn orders(rt: HostRuntime) {
     }
 }
 
-/// Whether 65,535 bytes of a client are served, and one more is refused.
+/// Whether 65,536 bytes of a client in one line are served, and as many in a second line, and one more in a line is refused.
 fn takes_most_bytes(alloc: Global) -> Option<bool> {
-    let digits = vec![in alloc; b'7'; 131_070].ok()?;
+    let digits = vec![in alloc; b'7'; 131_072].ok()?;
     let most = str::from_utf8(digits.as_slice()).ok()?;
     let ran = ran(
         alloc,
         &["replay"],
-        &[PASSES, OPEN, "client 1 ", most, "\n"],
+        &[PASSES, OPEN, "client 1 ", most, "\nclient 1 ", most, "\n"],
         NO_TROUBLE,
     )?;
     let over = [PASSES, OPEN, "client 1 77", most, "\n"];
