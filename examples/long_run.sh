@@ -1,6 +1,6 @@
 #!/usr/bin/env bash
 # Writes a script of one association whose client sends N bytes, one in each line, with a turn behind each line.
-# The first 13 are its greeting and its request; N is from 13 to 65535.
+# The first 13 are its greeting and its request; N is at least 13.
 set -eu
 n=${1:?usage: long_run.sh N}
 cat <<'END'
