@@ -11,7 +11,7 @@ use conf_text::Text;
 use socks_machine::{Outer, ScriptLine};
 use std::alloc::{AllocError, Global};
 
-/// The most bytes of a target in one line.
+/// The most bytes of a client or of a target in one line.
 const MOST_AT_ONCE: usize = 65_536;
 
 /// The association behind a word.
