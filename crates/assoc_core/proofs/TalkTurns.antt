@@ -135,7 +135,7 @@ pub record Talked {L : Type 0} (told : L → Told) (counts : L → Counts) (stan
   pub fails_c : fault ≡ Some Object.Client → Rose (counts a.client).faults (counts (left_of next).client).faults
   pub unfailing : (told a.client).unfailing ≡ true → (fault ≡ None) × (unwritten ≡ false)
 
-stops-as : (was ends idle : Bool) (part : List ℕ) (fault : Option Object) (P Q : Type 0) → (P → Q) → StopsReading was ends idle part fault P → StopsReading was ends idle part fault Q
+pub stops-as : (was ends idle : Bool) (part : List ℕ) (fault : Option Object) (P Q : Type 0) → (P → Q) → StopsReading was ends idle part fault P → StopsReading was ends idle part fault Q
 stops-as was ends idle part fault P Q f (StopsReading.ended h) = StopsReading.ended h
 stops-as was ends idle part fault P Q f (StopsReading.ends' h) = StopsReading.ends' h
 stops-as was ends idle part fault P Q f (StopsReading.rested h) = StopsReading.rested h
@@ -165,7 +165,7 @@ turns-called told counts stands t now net net' a next y ends outer idle full fau
   ends_t = λ e. absurd (cc);
   sent_c = ap (λ (z : List ℕ). length z) h.sent' ∙ length-append t.sent y;
   sent_t = ap (λ (z : List ℕ). length z) h.side.sent_t;
-  since = h.since';
+  since = λ e. h.since' ∙ e;
   number = h.number';
   client = client';
   client_ends = ends-heard (told (left_of next).client) ends (client'.ended' ∙ h.end_c') h.at_end;

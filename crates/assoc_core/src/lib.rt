@@ -9,6 +9,7 @@ mod closing;
 mod grant;
 mod hear;
 mod judge;
+mod moment;
 mod one_turn;
 mod prelude;
 mod reach;
