@@ -137,6 +137,7 @@ held told counts text pending gives ends was none = record {
   after' = sym (append-nil text);
   shut' = refl;
   told' = λ i. record told { taken = sym (more-nil told.taken) i };
+  stuck = λ e. refl;
   once = λ h. cc;
   due = λ h. cc;
   later = later-same counts;

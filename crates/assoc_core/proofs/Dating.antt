@@ -138,6 +138,8 @@ redone {L} told counts stands stands' s now net net' a next next' t outer h = re
     subst (λ (l : Option L). IsThereAnd l (λ link. IsFull (told link))) (sym h.target) f.0,
     subst (λ (r : Record). length r.sent_t < length (owed_t r)) (sym h.left') f.1,
   );
+  room_c = t.room_c;
+  room_t = t.room_t;
   fails_c = λ e. subst (λ (l : L). Rose (counts a.client).faults (counts l).faults) (sym h.client) (t.fails_c e);
   unfailing = t.unfailing;
 }

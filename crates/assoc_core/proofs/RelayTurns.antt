@@ -33,7 +33,7 @@ use Rattle.assoc_core.specs.declared.relay.Pass.{Pass}
 use Rattle.assoc_core.specs.Carrying.{Passes, is_read, is_sound, is_idle, is_full, fault_of, unwritten_of}
 use Rattle.assoc_core.specs.Plain.{IsPlainRecord, is_login_failed, owed_c, owed_t, prelude_of}
 use Rattle.assoc_core.specs.Stands.{Holds, HoldsTarget, Stands}
-use Rattle.assoc_core.specs.Turns.{Acts, event_of, context, links, Turns, GoesOn, left_of, mark_of, DialsAre, LookupsAre, PlanStays, IsOuterOf, IsIdle, IsFull, IsThereAnd, IsUnfailing, SameTarget}
+use Rattle.assoc_core.specs.Turns.{Acts, event_of, context, links, Turns, GoesOn, left_of, mark_of, DialsAre, LookupsAre, PlanStays, IsOuterOf, IsIdle, IsFull, IsThereAnd, IsUnfailing, TakesNothing, SameTarget}
 use Rattle.assoc_core.proofs.LinksHeld.{holds-taken, holds-given, ends-given, first-given, idle-given, full-taken, outside-given, outside-taken, outside-on, short}
 use Rattle.assoc_core.proofs.PassLaws.{ended-of, idle-of, unread-of, stops-of, full-of, unsound-of, sent-of, FaultTells, fault-tells, fault-none, fault-unread, fault-read, fault-first, sound-written}
 use Rattle.assoc_core.proofs.PlainRecords.{plain-owes-client, plain-owes-target}
@@ -246,6 +246,8 @@ relay-turns {L} told counts stands users pubs generation config cap h marks now 
   full_c = λ e. let f = full-of p.gives_c e in (f.1, rose-before _ _ _ p.takes_c.later.idle_writes f.2, short _ p.gives_c.rest _ owes_c f.0);
   full_t = λ e. let f = full-of p.gives_t e in
       (subst (λ (z : Option L). IsThereAnd z (λ link. IsFull (told link))) (sym k.target') (full-taken p.takes_t f.1), short _ p.gives_t.rest _ owes_t f.0);
+  room_c = λ e. ap (λ (z : List ℕ). length z) (p.gives_c.stuck ((outside-taken p.takes_c).room ∙ e));
+  room_t = λ e. ap (λ (z : List ℕ). length z) (p.gives_t.stuck (subst (λ (z : Option L). TakesNothing told net z) k.target e));
   fails_c = λ e. client-fails (subst (λ (z : Option Object). FaultTells z (is_read pass.took_c) (is_sound pass.gave_t) (is_read pass.took_t) (is_sound pass.gave_c)) e tells);
   unfailing = λ fine fine_t. (sym is_fault ∙ fault-none _ _ _ _ (read_fine_c fine) (sound_fine_t fine_t) (read_fine_t fine_t) (sound_fine_c fine), sym is_unwritten' ∙ both-false _ _ (sound-written pass.gave_t (sound_fine_t fine_t)) (sound-written pass.gave_c (sound_fine_c fine)));
 }

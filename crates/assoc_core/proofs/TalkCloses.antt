@@ -93,6 +93,7 @@ pub record ClosesTalk {L : Type 0} (told : L → Told) (counts : L → Counts) (
   pub short : ends ≡ true → length t.x < quantum
   pub faults : with_fault fault unwritten behind ≡ Some (caused t t.sent ends (Some cause))
   pub fits : fault_fits (basis_of t) fault unwritten behind ≡ true
+  pub stuck : (told a.client).room ≡ Some 0 → y ≡ []
   pub rest : List ℕ
   pub owed' : sent ++ rest ≡ owed_to_client (basis_of t) (caused t t.sent ends (Some cause))
   pub due : (nothing_pending (basis_of t) (caused t sent ends (Some cause)) ≡ true) ⊎ ((unwritten ≡ true) ⊎ (is_quiet (Some cause) ≡ true))
@@ -124,6 +125,7 @@ turns-closed told counts stands t net a b e y sent ends idle fault unwritten cau
       since' = refl;
       number' = refl;
       told' = ap told closed.client ∙ h.told';
+      stuck = h.stuck;
       target' = closed.target ∙ h.target';
       at_end = λ e1. subst (λ (z : _). IsAtEnd (told z)) (sym closed.client) (h.at_end e1);
       first = subst (λ (z : _). GivesFirst (told z)) (sym closed.client) h.first;

@@ -118,6 +118,7 @@ pub record Talked {L : Type 0} (told : L → Told) (counts : L → Counts) (stan
   pub since' : (result.left).since ≡ (t.party).since
   pub number' : (result.left).number ≡ (t.party).number
   pub told' : told (left_of next).client ≡ heard_told (told a.client) t.x y ends
+  pub stuck : (told a.client).room ≡ Some 0 → y ≡ []
   pub target' : (left_of next).target ≡ a.target
   pub at_end : ends ≡ true → IsAtEnd (told (left_of next).client)
   pub first : GivesFirst (told (left_of next).client)
@@ -171,7 +172,7 @@ turns-called told counts stands t now net net' a next y ends outer idle full fau
   client_ends = ends-heard (told (left_of next).client) ends (client'.ended' ∙ h.end_c') h.at_end;
   client_first = h.first;
   target = subst (λ (o : Option _). HoldsTarget told (h.result).left o) (sym h.target') (target-same told (unspoken t) (h.result).left a.target h.side k.target);
-  same_client = subst (λ (z : Told). SameOutside (told a.client) z) (sym h.told') (record { arrived = refl; cap = refl; unfailing = refl });
+  same_client = subst (λ (z : Told). SameOutside (told a.client) z) (sym h.told') (record { arrived = refl; cap = refl; room = refl; unfailing = refl });
   same_target = subst (λ (o : Option _). SameTarget told net a.target o) (sym h.target') (same-target told net a.target);
   behind = h.behind;
   taken' = λ worker. takes-is (spoken_to t) t.generation (t.config).methods (speak_event t worker now acts' (mark_of next)) (unspoken t) h.behind h.takes;
@@ -203,6 +204,8 @@ turns-called told counts stands t now net net' a next y ends outer idle full fau
   idle_t = λ e. absurd (cc);
   full_c = h.full_c;
   full_t = λ e. absurd (cc);
+  room_c = λ e. ap (λ (z : List ℕ). length z) (h.stuck e);
+  room_t = λ e. refl;
   fails_c = h.fails_c;
   unfailing = λ e1 e2. h.unfailing e1;
 }

@@ -51,7 +51,7 @@ GiveEnds told old new rest gives ends shut Give.Unwritten = (0 < length rest) ×
 GiveEnds told old new rest gives ends shut Give.Unshut =
     (rest ≡ []) × (ends ≡ true) × (shut ≡ false) × (told.unfailing ≡ false) × Rose old.faults new.faults
 
--- what of the pending bytes was sent to a sink, and whether it was shut
+-- what of the pending bytes was sent to a sink, none where its writes take nothing, and whether it was shut
 pub record GivesPart (old new : Told) (counts counts' : Counts) (before after pending : List ℕ) (gives ends was shut : Bool) (give : Give) : Type 0 where
   pub part : List ℕ
   pub rest : List ℕ
@@ -60,6 +60,7 @@ pub record GivesPart (old new : Told) (counts counts' : Counts) (before after pe
   pub after' : after ≡ before ++ part
   pub shut' : shut ≡ shuts || was
   pub told' : new ≡ record old { taken = more old.taken part; shut = shuts || old.shut }
+  pub stuck : old.room ≡ Some 0 → part ≡ []
   pub once : shuts ≡ true → was ≡ false
   pub due : shuts ≡ true → (ends ≡ true) × (rest ≡ [])
   pub later : Later counts counts'

@@ -1,5 +1,5 @@
 -- What one turn comes to.
-use Rattle.std.specs.Prelude.{ℕ, ◌+◌, ◌≡◌, ◌<◌, ◌≤◌, Bool, true, false, Option, Some, None, List, [], ◌∷◌, ◌++◌, length, is_some}
+use Rattle.std.specs.Prelude.{ℕ, ◌+◌, ◌≡◌, ◌≢◌, ◌<◌, ◌≤◌, Bool, true, false, Option, Some, None, List, [], ◌∷◌, ◌++◌, length, is_some}
 use Rattle.conf_model.specs.declared.config.Config.{Config}
 use Rattle.conf_model.specs.declared.protocol.Command.{Command}
 use Rattle.conf_model.specs.declared.user.User.{User}
@@ -106,6 +106,7 @@ GoesOn users (Next.Done e) = (e.state.done ≡ true) × (is_udp e.state ≡ fals
 pub record SameOutside (old new : Told) : Type 0 where
   pub arrived : new.arrived ≡ old.arrived
   pub cap : new.cap ≡ old.cap
+  pub room : new.room ≡ old.room
   pub unfailing : new.unfailing ≡ old.unfailing
 
 -- the target's link is the one that was there, or the one that the dial gave
@@ -119,6 +120,11 @@ SameTarget told net (Some old) None = ⊥
 abbrev pub IsUnfailing : {L : Type 0} → (L → Told) → NetTold → Option L → Type 0
 IsUnfailing told net None = (plan : Plan) × (net.plan ≡ Some plan) × (plan.link.unfailing ≡ true)
 IsUnfailing told net (Some link) = (told link).unfailing ≡ true
+
+-- whether the writes to the target's link take nothing, where it is there or comes as planned
+abbrev pub TakesNothing : {L : Type 0} → (L → Told) → NetTold → Option L → Type 0
+TakesNothing told net None = (plan : Plan) × (net.plan ≡ Some plan) × (plan.link.room ≡ Some 0)
+TakesNothing told net (Some link) = (told link).room ≡ Some 0
 
 -- the outcome of a dial as the event has it
 abbrev pub outer_of : DialOutcome → Outer
@@ -166,9 +172,9 @@ PlanStays net net' outer there = net'.plan ≡ net.plan
 abbrev pub IsIdle : Told → Type 0
 IsIdle told = (arrival : Arrival) (given : List ℕ) → told.arrived ≡ Some arrival → told.given ≡ Some given → (given ≡ arrival.bytes) × (arrival.ends ≡ false)
 
--- NotYet to a write: it has taken as much as it can
+-- NotYet to a write: it has taken as much as it can, unless its writes take nothing
 abbrev pub IsFull : Told → Type 0
-IsFull told = (cap : ℕ) (taken : List ℕ) → told.cap ≡ Some cap → told.taken ≡ Some taken → cap ≤ length taken
+IsFull told = told.room ≢ Some 0 → (cap : ℕ) (taken : List ℕ) → told.cap ≡ Some cap → told.taken ≡ Some taken → cap ≤ length taken
 
 abbrev pub IsThereAnd : {L : Type 0} → Option L → (L → Type 0) → Type 0
 IsThereAnd None p = ⊥
@@ -250,6 +256,8 @@ pub record Turns {L : Type 0} (told : L → Told) (counts : L → Counts) (stand
   pub full_c : acts.full_c ≡ true → IsFull (told (left_of next).client) × Rose (counts a.client).idle_writes (counts (left_of next).client).idle_writes
       × (length result.left.sent_c < length (owed_c result.left))
   pub full_t : acts.full_t ≡ true → IsThereAnd (left_of next).target (λ link. IsFull (told link)) × (length result.left.sent_t < length (owed_t result.left))
+  pub room_c : (told a.client).room ≡ Some 0 → acts.sent_c ≡ 0
+  pub room_t : TakesNothing told net a.target → acts.sent_t ≡ 0
   pub fails_c : acts.fault ≡ Some Object.Client → Rose (counts a.client).faults (counts (left_of next).client).faults
   pub unfailing : (told a.client).unfailing ≡ true → IsUnfailing told net a.target → (acts.fault ≡ None) × (acts.unwritten ≡ false)
 
