@@ -5,6 +5,7 @@ pub mod Asking
 pub mod Carryings
 pub mod DrainAnswers
 pub mod Drains
+pub mod Owing
 pub mod GrantTurns
 pub mod HeardTurns
 pub mod Hearings
@@ -12,6 +13,7 @@ pub mod Later
 pub mod Judging
 pub mod LinksHeld
 pub mod PassLaws
+pub mod Passing
 pub mod Inputs
 pub mod Payload
 pub mod Choosing
@@ -35,3 +37,4 @@ pub mod TalkTurns
 pub mod Talking
 pub mod RelayFinish
 pub mod Courses
+pub mod Waiting
