@@ -141,7 +141,7 @@ waits-for told counts stands users pubs generation config most h marks now net a
       state' = is;
       desk' = desk;
       goes_on = subst (IsPlainRecord users) (sym is) (plain-caused t s.sent_c false None (λ e. (refl, more)) agrees (sends'.rest, owed-plain));
-      direct' = record { direct = refl; known = tt };
+      direct' = record { direct = refl; known = tt; connects = refl };
       c' = refl;
       sent' = sends'.after';
       end_c' = refl;

@@ -247,7 +247,7 @@ drain-turns {L} told counts stands users pubs generation config cap h marks now 
   sent_t = length-append a.state.sent_t part_t;
   ends_c = λ e. absurd (cc);
   ends_t = λ e. absurd (cc);
-  since = refl;
+  since = λ e. e;
   number = refl;
   client = k.client;
   client_ends = k.client_ends;

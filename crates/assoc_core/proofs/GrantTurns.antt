@@ -142,8 +142,8 @@ grant-direct x sought b =
     ∙ ap proxy_of_via (via-direct (x.said).config (route_of (x.said).config (grant_facts (spoken x.said) x.request)) b.routes')
 
 goes-direct : (x : Asked) (sought : Option Sought) (b : Begun x sought) (refused : Option Cause) → GoesDirect (spoken_to x.said) (Decision.Opened b.g b.rule None ∷ behind_lookup sought (decision_on x refused ∷ []))
-goes-direct x None b refused = record { direct = grant-direct x None b; known = numbered-within (x.said).pubs (x.said).generation (x.said).config b.published }
-goes-direct x (Some l) b refused = record { direct = grant-direct x (Some l) b; known = numbered-within (x.said).pubs (x.said).generation (x.said).config b.published }
+goes-direct x None b refused = record { direct = grant-direct x None b; known = numbered-within (x.said).pubs (x.said).generation (x.said).config b.published; connects = b.connects }
+goes-direct x (Some l) b refused = record { direct = grant-direct x (Some l) b; known = numbered-within (x.said).pubs (x.said).generation (x.said).config b.published; connects = b.connects }
 
 judged-now : (x : Asked) (sought : Option Sought) (b : Begun x sought) (refused : Option Cause) (sent : List ℕ) (cause : Option Cause) (ds : List Decision) → (is_some refused ≡ true → is_some cause ≡ true)
     → Judged (x.said).users (asked x.said ds sent cause) (name_sought sought) (grant_facts (spoken x.said) x.request) refused

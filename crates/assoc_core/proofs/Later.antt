@@ -36,6 +36,7 @@ pub direct-later : (basis : Basis) (more : List Config) (ds : List Decision) →
 direct-later basis more ds h = record {
   direct = proxies-later basis more (granted ds) h.known ∙ h.direct;
   known = still-known basis.pubs more (granted ds) h.known;
+  connects = h.connects;
 }
 
 pub stands-later : {L : Type 0} (told : L → Told) (basis : Basis) (more : List Config) (a : Assoc L) → Stands told basis a → Stands told (with_more basis more) a

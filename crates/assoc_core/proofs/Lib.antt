@@ -12,6 +12,10 @@ pub mod Hearings
 pub mod Later
 pub mod Judging
 pub mod LinksHeld
+pub mod Moments
+pub mod Lateness
+pub mod Movements
+pub mod Dating
 pub mod PassLaws
 pub mod Passing
 pub mod Inputs

@@ -434,7 +434,7 @@ dialled-down told basis net net' now a to pushed o g g' rule s facts verdict rou
 pub dialled-up : {L : Type 0} (told : L → Told) (basis : Basis) (net net' : NetTold) (now : ℕ) (a : Assoc L) (to local : Endpoint) (pushed after : List Decision) (g g' : ℕ) (rule : Option ℕ) (s : Option Sought) (facts : Facts) (verdict : Verdict) (route : Option ℕ)
     → Dials told net net' now a to pushed (DialOutcome.CameUp local) → after ≡ slice_set pushed (length pushed - 1) (Decision.Reached to (Some local)) → Stands told basis a → (a.state).since ≡ now → (a.state).cause ≡ None
     → (a.state).decisions ≡ Decision.Opened g rule None ∷ behind_lookup s (Decision.Granted g' facts verdict route None ∷ [])
-    → HasDialled told basis net net' now a (record { state = (let r = a.state in record r { decisions = after; since = now }); client = a.client; target = a.target }) (DialOutcome.CameUp local)
+    → HasDialled told basis net net' now a (record { state = (let r = a.state in record r { decisions = after }); client = a.client; target = a.target }) (DialOutcome.CameUp local)
 dialled-up told basis net net' now a to local pushed after g g' rule s facts verdict route k set' standing since uncaused is = record {
   stands = standing;
   g = g;
@@ -448,7 +448,7 @@ dialled-up told basis net net' now a to local pushed after g g' rule s facts ver
   uncaused = uncaused;
   since = since;
   state' = λ i. let r = a.state in record r {
-    since = now;
+    since = since i;
     decisions = (last-set (a.state).decisions pushed after (Decision.Reached to None) (Decision.Reached to (Some local)) k.pushed' set' ∙ (λ n. (a.state).decisions ++ Decision.Reached (to-is n) (Some local) ∷ [])) i;
   };
   client' = refl;

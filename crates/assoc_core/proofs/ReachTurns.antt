@@ -32,7 +32,7 @@ use Rattle.assoc_core.specs.declared.assoc.Next.{Next}
 use Rattle.assoc_core.specs.Plain.{IsPlainRecord, HasAsked, HasDecided, Judged, Sought, behind_lookup, name_sought, plain_to_client, plain_to_target, prelude_of, is_login_failed, owed_c, opening_owed, success_reply, refusal_owed, payload_to_client}
 use Rattle.connect_core.specs.Reaching.{cause_of}
 use Rattle.assoc_core.specs.Reaching.{HasDialled, SameDesk, at_of}
-use Rattle.assoc_core.specs.Stands.{GoesDirect, Stands, Holds, HoldsTarget, EndsBehind, GivesFirst}
+use Rattle.assoc_core.specs.Stands.{IsConnect, GoesDirect, Stands, Holds, HoldsTarget, EndsBehind, GivesFirst}
 use Rattle.assoc_core.specs.Turns.{Turns, StopsReading, SameOutside, SameTarget, DialsAre, LookupsAre, PlanStays, IsOuterOf, IsUnfailing, TakesNothing, IsFull, IsThereAnd, links, outer_of}
 use Rattle.assoc_core.proofs.Answering.{still-left}
 use Rattle.assoc_core.proofs.PlainRecords.{passed_grant, plain-owes-client, plain-owes-target, granted-behind, unreached-behind}
@@ -110,6 +110,9 @@ grant-behind d at = granted-behind d.sought (Decision.Granted d.g' (connecting d
 
 direct-behind : (d : Dialling) (at : Option Endpoint) → option_and_then (proxy_of_grant (basis_of d)) (granted (reached_behind d at)) ≡ None
 direct-behind d at = ap (option_and_then (proxy_of_grant (basis_of d))) (grant-behind d at) ∙ d.direct
+
+connects-behind : (d : Dialling) (at : Option Endpoint) → IsConnect (granted (reached_behind d at)) (reached_at (reached_behind d at))
+connects-behind d at = subst (λ (z : Option Grant). IsConnect z (reached_at (reached_behind d at))) (sym (grant-behind d at)) refl
 
 known-behind : (d : Dialling) (at : Option Endpoint) → IfSome (granted (reached_behind d at)) (λ g. g.generation ≤ length d.pubs)
 known-behind d at = subst (λ (z : Option Grant). IfSome z (λ g. g.generation ≤ length d.pubs)) (sym (grant-behind d at)) d.known
@@ -394,14 +397,14 @@ turns-reached told counts d net net' a z o y_c rest_c rest_t full_c full_t fault
   state' = h.state';
   desk = (refl, refl);
   goes_on = subst (IsPlainRecord d.users) (sym h.state') plain;
-  direct = record { direct = direct-behind d (at_of o); known = known-behind d (at_of o) };
+  direct = record { direct = direct-behind d (at_of o); known = known-behind d (at_of o); connects = connects-behind d (at_of o) };
   c = sym (append-nil d.c);
   t = refl;
   ends_c = λ e. absurd (cc);
   ends_t = λ e. absurd (cc);
   sent_c = length-append d.sent y_c;
   sent_t = zero-more (length (z.state).sent_t);
-  since = refl;
+  since = λ e. e;
   number = refl;
   client = subst (λ (w : Told). Holds w d.c (d.sent ++ y_c) false false) (sym h.told') (holds-taken (told a.client) d.c d.sent y_c false false k.client);
   client_ends = subst EndsBehind (sym h.told') k.client_ends;

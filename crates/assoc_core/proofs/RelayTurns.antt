@@ -208,7 +208,7 @@ relay-turns {L} told counts stands users pubs generation config cap h marks now 
   sent_t = length-append a.state.sent_t p.gives_t.part;
   ends_c = λ e. ap (λ b. b || a.state.end_c) e;
   ends_t = λ e. ap (λ b. b || a.state.end_t) e;
-  since = refl;
+  since = λ e. e;
   number = refl;
   client = subst (λ (z : Record). Holds (told (left_of next).client) z.c z.sent_c z.end_c z.shut_c) leaves
       (holds-given _ _ _ _ _ _ _ _ _ _ _ _ _ _ (holds-taken _ _ _ _ _ _ _ _ _ _ _ _ k.stands.client p.takes_c) p.gives_c);

@@ -115,7 +115,7 @@ seeks-turn told counts users pubs generation config most h marks now net net' a 
         unended = refl;
         stands = λ e. stands (not-found o e);
       };
-      direct = record { direct = refl; known = tt };
+      direct = record { direct = refl; known = tt; connects = refl };
     })
     (arrives-heard told counts users pubs generation config most h marks a b request k x refl) k.target'
     (sought.state' ∙ ap (sought_behind name o) (behind-is told counts users pubs generation config most h marks a b (HasAsked request) k))

@@ -116,7 +116,7 @@ turns-closed told counts stands t net a b e y sent ends idle fault unwritten cau
       state' = ended';
       desk' = closed.closes.stands';
       goes_on = (ap (λ z. z.done) ended', ap (λ z. is_udp z) ended', ap (λ z. z.sent_u) ended');
-      direct' = record { direct = refl; known = tt };
+      direct' = record { direct = refl; known = tt; connects = refl };
       c' = refl;
       sent' = h.sent';
       end_c' = refl;

@@ -136,14 +136,14 @@ pub record Talked {L : Type 0} (told : L → Told) (counts : L → Counts) (stan
   pub fails_c : fault ≡ Some Object.Client → Rose (counts a.client).faults (counts (left_of next).client).faults
   pub unfailing : (told a.client).unfailing ≡ true → (fault ≡ None) × (unwritten ≡ false)
 
-stops-as : (was ends idle : Bool) (part : List ℕ) (fault : Option Object) (F P Q : Type 0) → (P → Q) → StopsReading was ends idle part fault ⊥ P → StopsReading was ends idle part fault F Q
-stops-as was ends idle part fault F P Q f (StopsReading.ended h) = StopsReading.ended h
-stops-as was ends idle part fault F P Q f (StopsReading.ends' h) = StopsReading.ends' h
-stops-as was ends idle part fault F P Q f (StopsReading.rested h) = StopsReading.rested h
-stops-as was ends idle part fault F P Q f (StopsReading.took h) = StopsReading.took h
-stops-as was ends idle part fault F P Q f (StopsReading.failed h) = StopsReading.failed h
-stops-as was ends idle part fault F P Q f (StopsReading.held h) = absurd h
-stops-as was ends idle part fault F P Q f (StopsReading.unread h) = StopsReading.unread (f h)
+pub stops-as : (was ends idle : Bool) (part : List ℕ) (fault : Option Object) (F G P Q : Type 0) → (F → G) → (P → Q) → StopsReading was ends idle part fault F P → StopsReading was ends idle part fault G Q
+stops-as was ends idle part fault F G P Q f g (StopsReading.ended h) = StopsReading.ended h
+stops-as was ends idle part fault F G P Q f g (StopsReading.ends' h) = StopsReading.ends' h
+stops-as was ends idle part fault F G P Q f g (StopsReading.rested h) = StopsReading.rested h
+stops-as was ends idle part fault F G P Q f g (StopsReading.took h) = StopsReading.took h
+stops-as was ends idle part fault F G P Q f g (StopsReading.failed h) = StopsReading.failed h
+stops-as was ends idle part fault F G P Q f g (StopsReading.held h) = StopsReading.held (f h)
+stops-as was ends idle part fault F G P Q f g (StopsReading.unread h) = StopsReading.unread (g h)
 
 ends-heard : (told : Told) (ends : Bool) → told.ended ≡ ends → (ends ≡ true → IsAtEnd told) → EndsBehind told
 ends-heard told ends is at_end arrival given e1 e2 ended = at_end (sym is ∙ ended) arrival given e1 e2
@@ -167,7 +167,7 @@ turns-called told counts stands t now net net' a next y ends outer idle full fau
   ends_t = λ e. absurd (cc);
   sent_c = ap (λ (z : List ℕ). length z) h.sent' ∙ length-append t.sent y;
   sent_t = ap (λ (z : List ℕ). length z) h.side.sent_t;
-  since = h.since';
+  since = λ e. h.since' ∙ e;
   number = h.number';
   client = client';
   client_ends = ends-heard (told (left_of next).client) ends (client'.ended' ∙ h.end_c') h.at_end;
@@ -182,7 +182,7 @@ turns-called told counts stands t now net net' a next y ends outer idle full fau
   lookup_plan = calls.lookup_plan;
   plan' = calls.plan';
   outer' = calls.outer';
-  stops_c = λ worker. stops-as false ends idle t.x fault _ _ _ (λ unread. record {
+  stops_c = λ worker. stops-as false ends idle t.x fault _ _ _ _ (λ none. absurd none) (λ unread. record {
     behind = h.open';
     taken' = takes-is (spoken_to t) t.generation (t.config).methods (speak_event t worker now open_acts (mark_of next)) (unspoken t) h.open' h.takes_open;
     unread' = unread;

@@ -280,7 +280,7 @@ waits-away told counts stands users pubs generation config most h marks now net 
       state' = w.is;
       desk' = desk;
       goes_on = subst (IsPlainRecord users) (sym w.is) (plain-caused t s.sent_c false (Some cause) (λ e1. absurd (cc)) w.fits (w.rest, w.all));
-      direct' = record { direct = refl; known = tt };
+      direct' = record { direct = refl; known = tt; connects = refl };
       c' = refl;
       sent' = w.after';
       stuck = w.stuck;

@@ -5,6 +5,7 @@ pub mod Draining
 pub mod Granting
 pub mod Hearing
 pub mod Lines
+pub mod Moment
 pub mod Plain
 pub mod Reaching
 pub mod Reads

@@ -3,11 +3,12 @@ use Rattle.std.specs.Prelude.{ℕ, ◌≡◌, ◌≤◌, Bool, true, false, Opti
 use mathlib.Core.List.{IsPrefix}
 use Rattle.net_ends.specs.Told.{Told, Arrival}
 use Rattle.addr_pattern.specs.declared.endpoint.Endpoint.{Endpoint}
+use Rattle.conf_model.specs.declared.protocol.Command.{Command}
 use Rattle.conf_model.specs.declared.user.User.{User}
 use Rattle.socks_machine.specs.declared.record.Decision.{Decision}
 use Rattle.socks_machine.specs.declared.record.Record.{Record}
 use Rattle.socks_machine.specs.Basis.{Basis}
-use Rattle.socks_machine.specs.Decisions.{granted, reached_at}
+use Rattle.socks_machine.specs.Decisions.{Grant, granted, reached_at}
 use Rattle.socks_machine.specs.Inputs.{is_served_input}
 use Rattle.socks_machine.specs.View.{proxy_of_grant}
 use Rattle.assoc_core.specs.declared.assoc.Assoc.{Assoc}
@@ -41,10 +42,16 @@ pub record TellsServed (users : List User) (told : Told) : Type 0 where
   pub given' : told.given ≡ Some given
   pub served : is_served_input users arrival.bytes ≡ true
 
+-- a CONNECT was granted, or nothing was, and then nothing was reached
+abbrev pub IsConnect : Option Grant → Option Endpoint → Type 0
+IsConnect None at = at ≡ None
+IsConnect (Some g) at = g.facts.command ≡ Command.Connect
+
 -- the grant, where there is one, is of a published configuration, and the route that it keeps leads to no proxy there
 pub record GoesDirect (basis : Basis) (ds : List Decision) : Type 0 where
   pub direct : option_and_then (proxy_of_grant basis) (granted ds) ≡ None
   pub known : IfSome (granted ds) (λ g. g.generation ≤ length basis.pubs)
+  pub connects : IsConnect (granted ds) (reached_at ds)
 
 -- the association stands for its record
 pub record Stands {L : Type 0} (told : L → Told) (basis : Basis) (a : Assoc L) : Type 0 where

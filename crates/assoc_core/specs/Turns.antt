@@ -235,7 +235,7 @@ pub record Turns {L : Type 0} (told : L → Told) (counts : L → Counts) (stand
   pub sent_t : length result.left.sent_t ≡ length a.state.sent_t + acts.sent_t
   pub ends_c : acts.end_c ≡ true → result.left.end_c ≡ true
   pub ends_t : acts.end_t ≡ true → result.left.end_t ≡ true
-  pub since : result.left.since ≡ a.state.since
+  pub since : a.state.since ≡ now → result.left.since ≡ now
   pub number : result.left.number ≡ a.state.number
   pub client : Holds (told (left_of next).client) result.left.c result.left.sent_c result.left.end_c result.left.shut_c
   pub client_ends : EndsBehind (told (left_of next).client)

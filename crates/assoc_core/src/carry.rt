@@ -13,7 +13,7 @@ use std::alloc::{AllocError, Global};
 /// How many bytes one turn reads of a side at most.
 pub const QUANTUM: usize = 65536;
 
-/// How many bytes may wait for a sink where its source is read.
+/// A source is read only where fewer bytes than these wait for its sink.
 const PIPE: usize = 16384;
 
 /// Why nothing more was read of a source.

@@ -11,6 +11,7 @@ ghost use Rattle.assoc_core.specs.Stands.{Stands, TellsServed};
 ghost use Rattle.assoc_core.specs.Turns.{Turns, context};
 
 use crate::assoc::{Assoc, Next};
+use crate::moment::Movement;
 use crate::reach::reach_target;
 use crate::talk::talk;
 use conf_model::Config;
@@ -44,11 +45,41 @@ fn course_of(decisions: &[Decision]) -> Course
     }
 }
 
+/// A turn at the moment of the last movement, at which nothing is late.
+#[tactic(none)]
+fn turn_in_time<N: Net, K: DeskCall>(
+    alloc: Global,
+    a: Assoc<N::Link>,
+    generation: u64,
+    config: &Config,
+    users: &Users,
+    desk: &mut K,
+    net: &mut N,
+) -> Result<Next<N::Link>, AllocError>
+where
+    N::Link: Drop,
+    requires { FitsNumbers config.now }
+    ensures cap { IfOk result (λ next. K.cap desk.new ≡ K.cap desk.old) }
+    ensures turns { IfOk result (λ next. (pubs : Items SomeConfig) (h : Items Line) (marks : Items StopBy)
+        → K.stands desk.old h marks → Stands N.Link.told (socks users.now pubs) a → TellsServed users.now (N.Link.told a.client) → numbered pubs generation ≡ Some config.now → IsPlain config.now
+        → Turns N.Link.told N.Link.counts (K.stands desk.new) (context users.now pubs generation config.now (K.cap desk.old) h marks) a.state.since (N.told net.old) (N.told net.new) a next) }
+{
+    if let Some(cause) = a.state.cause {
+        return a.closing(alloc, desk, cause);
+    }
+    match course_of(a.state.decisions.as_slice()) {
+        Course::Accept => a.accept(generation, config, desk),
+        Course::Talk => talk(a, alloc, generation, config, users, desk, net),
+        Course::Judge => a.judge(alloc, generation, config, users, desk),
+        Course::Reach => reach_target(a, alloc, net),
+        Course::Relay => a.relay(alloc, desk),
+    }
+}
+
 /// One turn of a worker on an association, with the configuration of the generation that it has seen and the users who may
 /// log in; `now` is in seconds. An association that stands for a record makes one lawful turn of the machine on it, and what is answered
 /// stands for the record which that leaves. Where memory is refused it is `Err`, and nothing is said of the association
 /// then.
-#[tactic(none)]
 pub fn turn<N: Net, K: DeskCall>(
     alloc: Global,
     a: Assoc<N::Link>,
@@ -64,17 +95,10 @@ where
     requires { FitsNumbers config.now }
     ensures cap { IfOk result (λ next. K.cap desk.new ≡ K.cap desk.old) }
     ensures turns { IfOk result (λ next. (pubs : Items SomeConfig) (h : Items Line) (marks : Items StopBy)
-        → K.stands desk.old h marks → Stands N.Link.told (socks users.now pubs) a → TellsServed users.now (N.Link.told a.client) → numbered pubs generation ≡ Some config.now → IsPlain config.now → a.state.since ≡ now
+        → K.stands desk.old h marks → Stands N.Link.told (socks users.now pubs) a → TellsServed users.now (N.Link.told a.client) → numbered pubs generation ≡ Some config.now → IsPlain config.now
         → Turns N.Link.told N.Link.counts (K.stands desk.new) (context users.now pubs generation config.now (K.cap desk.old) h marks) now (N.told net.old) (N.told net.new) a next) }
 {
-    if let Some(cause) = a.state.cause {
-        return a.closing(alloc, desk, cause);
-    }
-    match course_of(a.state.decisions.as_slice()) {
-        Course::Accept => a.accept(generation, config, desk),
-        Course::Talk => talk(a, alloc, generation, config, users, desk, net),
-        Course::Judge => a.judge(alloc, generation, config, users, desk),
-        Course::Reach => reach_target(a, alloc, now, net),
-        Course::Relay => a.relay(alloc, desk),
-    }
+    let before = Movement::of(&a.state);
+    let next = turn_in_time(alloc, a, generation, config, users, desk, net)?;
+    Ok(next.at(before, now, config, desk))
 }

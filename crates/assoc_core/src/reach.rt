@@ -100,16 +100,15 @@ impl<L: Link + Drop> Assoc<L> {
     }
 }
 
-/// Dials the granted destination. `now` is in seconds.
+/// Dials the granted destination.
 pub(crate) fn reach_target<N: Net>(
     mut assoc: Assoc<N::Link>,
     alloc: Global,
-    now: u64,
     net: &mut N,
 ) -> Result<Next<N::Link>, AllocError>
 where
     N::Link: Drop,
-    ensures { IfOk result (λ next. (users : List User) (pubs : List Config) (generation : ℕ) (config : Config) (cap : ℕ) (h : List Line) (marks : List StopBy) (g g' : ℕ) (rule : Option ℕ) (sought : Option Sought) (facts : Facts) (verdict : Verdict) (route : Option ℕ) → Stands N.Link.told (socks users pubs) assoc → assoc.state.since ≡ now → assoc.state.cause ≡ None → assoc.state.decisions ≡ Decision.Opened g rule None ∷ behind_lookup sought (Decision.Granted g' facts verdict route None ∷ []) → Turns N.Link.told N.Link.counts (SameDesk h marks) (context users pubs generation config cap h marks) now (N.told net.old) (N.told net.new) assoc next) }
+    ensures { IfOk result (λ next. (users : List User) (pubs : List Config) (generation : ℕ) (config : Config) (cap : ℕ) (h : List Line) (marks : List StopBy) (now g g' : ℕ) (rule : Option ℕ) (sought : Option Sought) (facts : Facts) (verdict : Verdict) (route : Option ℕ) → Stands N.Link.told (socks users pubs) assoc → assoc.state.since ≡ now → assoc.state.cause ≡ None → assoc.state.decisions ≡ Decision.Opened g rule None ∷ behind_lookup sought (Decision.Granted g' facts verdict route None ∷ []) → Turns N.Link.told N.Link.counts (SameDesk h marks) (context users pubs generation config cap h marks) now (N.told net.old) (N.told net.new) assoc next) }
 {
     let Some(to) = granted_to(assoc.state.decisions.as_slice()) else {
         // Nothing was granted: nothing is dialled.
@@ -123,7 +122,6 @@ where
         Reached::Up { link, local } => {
             let at = Some(local);
             assoc.state.decisions.set_last(Decision::Reached { to, at });
-            assoc.state.since = now;
             assoc.greet(alloc, link)
         }
         Reached::Failed(cause) => assoc.refuse(alloc, cause),

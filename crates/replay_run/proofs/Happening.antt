@@ -222,7 +222,7 @@ opened-stands basis number peer local = record {
     sent_c = ([], refl);
     sent_t = ([], refl);
   };
-  direct = record { direct = refl; known = tt };
+  direct = record { direct = refl; known = tt; connects = refl };
   client = record { given' = λ x h. cc; taken' = λ x h. cc; ended' = refl; shut' = refl };
   client_ends = λ arrival given a g e. absurd (cc);
   client_first = λ arrival given a g. let none : given ≡ [] = cc in (arrival.bytes, ap (λ z. z ++ arrival.bytes) none);
