@@ -24,11 +24,11 @@ use Rattle.socks_machine.proofs.TakeLaws.{nothing-in}
 
 -- ---- without a proxy there is no dialogue
 
-undialogued : (basis : Basis) (heard : List ℕ) (g : Option Grant) → option_and_then (proxy_of_grant basis) g ≡ None → outcome_of_grant basis heard g ≡ None
+pub undialogued : (basis : Basis) (heard : List ℕ) (g : Option Grant) → option_and_then (proxy_of_grant basis) g ≡ None → outcome_of_grant basis heard g ≡ None
 undialogued basis heard None h = refl
 undialogued basis heard (Some g) h = ap (outcome_with heard g) h
 
-unsaid : (basis : Basis) (heard : List ℕ) (g : Option Grant) → option_and_then (proxy_of_grant basis) g ≡ None → said_by_grant basis heard g ≡ []
+pub unsaid : (basis : Basis) (heard : List ℕ) (g : Option Grant) → option_and_then (proxy_of_grant basis) g ≡ None → said_by_grant basis heard g ≡ []
 unsaid basis heard None h = refl
 unsaid basis heard (Some g) h = ap (said_with heard g) h
 
