@@ -88,7 +88,7 @@ pub record ClosesTalk {L : Type 0} (told : L → Told) (counts : L → Counts) (
   pub takes_open : Takes (basis_of t) t.generation (t.config).methods (heard_takings t false (links idle false) (links false false)) (before t) open'
   pub uncalling : is_calling (phase (basis_of t) behind) None ≡ false
   pub unread_t : reads_target open' (phase (basis_of t) open') ≡ false
-  pub stops_c : StopsReading false ends idle t.x fault (reads_client (basis_of t) (links idle false) (links false false) open' (phase (basis_of t) open') ≡ false)
+  pub stops_c : StopsReading false ends idle t.x fault ⊥ (reads_client (basis_of t) (links idle false) (links false false) open' (phase (basis_of t) open') ≡ false)
   pub talks : ends ≡ true → phase (basis_of t) open' ≡ Phase.Talk
   pub short : ends ≡ true → length t.x < quantum
   pub faults : with_fault fault unwritten behind ≡ Some (caused t t.sent ends (Some cause))

@@ -6,6 +6,7 @@ mod assoc;
 mod carry;
 mod close;
 mod closing;
+mod due;
 mod grant;
 mod hear;
 mod judge;

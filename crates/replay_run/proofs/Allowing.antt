@@ -106,15 +106,16 @@ pub record Turning : Type 1 where
   pub o : Outside
   pub next : Next LinkInMemory
   pub stands' : List Line → List StopBy → Type 0
-  pub now : s.now ≡ 0
+  pub now : ℕ
+  pub moment : s.now ≡ now
   pub marks : last_mark w.marks ≡ None
   pub going : IsGoing (basis_of w) n a net o
-  pub turns : Turns told_of_link (λ (l : LinkInMemory). l.counts) stands' (context w.users w.pubs generation config w.cap w.h w.marks) 0 (told_of_net net) (told_of_net net') a next
-  pub stepped : step w (Event.Turn (event_of 1 a.state.number 0 turns.acts (mark_of next))) ≡ Some new
+  pub turns : Turns told_of_link (λ (l : LinkInMemory). l.counts) stands' (context w.users w.pubs generation config w.cap w.h w.marks) now (told_of_net net) (told_of_net net') a next
+  pub stepped : step w (Event.Turn (event_of 1 a.state.number now turns.acts (mark_of next))) ≡ Some new
   pub behind' : numbered new.records a.state.number ≡ Some (turns.result).left
 
 abbrev pub event : Turning → TurnEvent
-event k = event_of 1 k.a.state.number 0 k.turns.acts (mark_of k.next)
+event k = event_of 1 k.a.state.number k.now k.turns.acts (mark_of k.next)
 
 abbrev left : Turning → Record
 left k = (k.turns.result).left
@@ -367,7 +368,7 @@ faults-are k = record {
 
 pub allows : (k : Turning) → Allows k.s k.w k.generation k.config k.o (event k) [] k.a.state
 allows k = record {
-  moment = sym k.now;
+  moment = sym k.moment;
   stop' = sym k.marks;
   ends = never-going k.next;
   client = reads-arrived-c k;

@@ -67,12 +67,12 @@ shown world g ev r h = h
 -- the turn that the script allows at this place, once it is known for the world that the replay stands for
 turned-at : (users : List User) (config : Config) (k : ℕ) (old new : Replay) (a : Assoc LinkInMemory) (net net' : NetInMemory) (next : Next LinkInMemory) (still : Bool) (before : Totals)
     → slice_get old.slots k ≡ Some (Slot.Going a net) → before ≡ totals_of a.state
-    → MakesTurn users (old.gens).seen config old.desk new.desk a net next net' → WritesTurn (old.gens).seen before next old.out new.out still
-    → new.slots ≡ slice_set old.slots k (slot_of next net') → new.gens ≡ old.gens → numbered (old.gens).configs (old.gens).seen ≡ Some config
-    → (s : Surroundings) (w : World) → Mirrors users (StandsFor old.desk) old.desk.cap s w old.gens old.slots
-    → Turns told_of_link (λ (l : LinkInMemory). l.counts) (StandsFor new.desk) (context w.users w.pubs (old.gens).seen config w.cap w.h w.marks) 0 (told_of_net net) (told_of_net net') a next
+    → MakesTurn users (old.gens).seen config old.moment old.desk new.desk a net next net' → WritesTurn (old.gens).seen before next old.out new.out still
+    → new.slots ≡ slice_set old.slots k (slot_of next net') → new.gens ≡ old.gens → new.moment ≡ old.moment → numbered (old.gens).configs (old.gens).seen ≡ Some config
+    → (s : Surroundings) (w : World) → Mirrors users (StandsFor old.desk) old.desk.cap old.moment s w old.gens old.slots
+    → Turns told_of_link (λ (l : LinkInMemory). l.counts) (StandsFor new.desk) (context w.users w.pubs (old.gens).seen config w.cap w.h w.marks) old.moment (told_of_net net) (told_of_net net') a next
     → IsTurned users s w k old new still
-turned-at users config k old new a net net' next still before at totals makes writes slots gens is-config s w m t = record {
+turned-at users config k old new a net net' next still before at totals makes writes slots gens same-moment is-config s w m t = record {
   ev = ev;
   left = left;
   world = r.new;
@@ -80,9 +80,10 @@ turned-at users config k old new a net net' next still before at totals makes wr
   stepped = r.stepped;
   used = r.used;
   over = goes-over ev next refl;
-  mirrors = subst (λ (z : Generations). Mirrors users (StandsFor new.desk) new.desk.cap s r.new z new.slots) (sym gens)
-      (subst (λ (z : List Slot). Mirrors users (StandsFor new.desk) new.desk.cap s r.new old.gens z) (sym slots)
-      (subst (λ (n : ℕ). Mirrors users (StandsFor new.desk) n s r.new old.gens (slice_set old.slots k (slot_of next net'))) (sym makes.cap) r.mirrors));
+  mirrors = subst (λ (z : Generations). Mirrors users (StandsFor new.desk) new.desk.cap new.moment s r.new z new.slots) (sym gens)
+      (subst (λ (z : List Slot). Mirrors users (StandsFor new.desk) new.desk.cap new.moment s r.new old.gens z) (sym slots)
+      (subst (λ (n : ℕ). Mirrors users (StandsFor new.desk) new.desk.cap n s r.new old.gens (slice_set old.slots k (slot_of next net'))) (sym same-moment)
+      (subst (λ (n : ℕ). Mirrors users (StandsFor new.desk) n old.moment s r.new old.gens (slice_set old.slots k (slot_of next net'))) (sym makes.cap) r.mirrors)));
   still' = writes.still' ev refl refl refl took_c took_t put_c put_t;
   line = shown r.new (old.gens).seen ev left r.line';
   out = subst (λ (x : Record). new.out ≡ old.out ++ turn_shown (old.gens).seen ev x) is
@@ -93,7 +94,7 @@ turned-at users config k old new a net net' next still before at totals makes wr
 }
   where
     ev : TurnEvent
-    ev = event_of 1 a.state.number 0 t.acts (mark_of next)
+    ev = event_of 1 a.state.number old.moment t.acts (mark_of next)
 
     left : Record
     left = (t.result).left
@@ -104,8 +105,8 @@ turned-at users config k old new a net net' next still before at totals makes wr
     mark : last_mark (t.result).marks ≡ None
     mark = sym (t.desk).mark ∙ makes.mark
 
-    r : Turned.IsTurned users s w old.gens old.slots k ev (slot_of next net') left (StandsFor new.desk) old.desk.cap
-    r = turned users s w old.gens config old.slots k a net net' next (StandsFor old.desk) (StandsFor new.desk) old.desk.cap m is-config at t mark
+    r : Turned.IsTurned users s w old.gens old.slots k ev (slot_of next net') left (StandsFor new.desk) old.desk.cap old.moment
+    r = turned users s w old.gens config old.slots k a net net' next (StandsFor old.desk) (StandsFor new.desk) old.desk.cap old.moment m is-config at t mark
 
     took_c : length (left_record next).c ≡ before.took_c + length ev.c
     took_c = longer (left_record next).c a.state.c ev.c before.took_c (ap (λ (x : Record). x.c) is ∙ t.c) (ap (λ (x : Totals). x.took_c) totals)
@@ -121,18 +122,18 @@ turned-at users config k old new a net net' next still before at totals makes wr
 
 -- what the association's outside gives for its turn
 the-turns : (users : List User) (config : Config) (k : ℕ) (old new : Replay) (a : Assoc LinkInMemory) (net net' : NetInMemory) (next : Next LinkInMemory)
-    → slice_get old.slots k ≡ Some (Slot.Going a net) → MakesTurn users (old.gens).seen config old.desk new.desk a net next net' → numbered (old.gens).configs (old.gens).seen ≡ Some config
-    → (s : Surroundings) (w : World) → Mirrors users (StandsFor old.desk) old.desk.cap s w old.gens old.slots → IsPlain config
-    → Turns told_of_link (λ (l : LinkInMemory). l.counts) (StandsFor new.desk) (context w.users w.pubs (old.gens).seen config w.cap w.h w.marks) 0 (told_of_net net) (told_of_net net') a next
+    → slice_get old.slots k ≡ Some (Slot.Going a net) → MakesTurn users (old.gens).seen config old.moment old.desk new.desk a net next net' → numbered (old.gens).configs (old.gens).seen ≡ Some config
+    → (s : Surroundings) (w : World) → Mirrors users (StandsFor old.desk) old.desk.cap old.moment s w old.gens old.slots → IsPlain config
+    → Turns told_of_link (λ (l : LinkInMemory). l.counts) (StandsFor new.desk) (context w.users w.pubs (old.gens).seen config w.cap w.h w.marks) old.moment (told_of_net net) (told_of_net net') a next
 the-turns users config k old new a net net' next at makes is-config s w m plain =
-    subst (λ (n : ℕ). Turns told_of_link (λ (l : LinkInMemory). l.counts) (StandsFor new.desk) (context w.users w.pubs (old.gens).seen config n w.h w.marks) 0 (told_of_net net) (told_of_net net') a next) m.cap'
+    subst (λ (n : ℕ). Turns told_of_link (λ (l : LinkInMemory). l.counts) (StandsFor new.desk) (context w.users w.pubs (old.gens).seen config n w.h w.marks) old.moment (told_of_net net) (told_of_net net') a next) m.cap'
     (over.turns w.pubs w.h w.marks m.desk going.stands (record {
       arrival = record { bytes = a.client.arrived; ends = a.client.ends };
       given = a.client.given;
       arrived' = refl;
       given' = refl;
       served = ap (is_served_input w.users) going.arrived ∙ going.served;
-    }) shown' plain going.since)
+    }) shown' plain)
   where
     found : (o : Outside) × (slice_get s.outsides k ≡ Some o) × IsSlot (basis_of w) (1 + k) (Slot.Going a net) o
     found = slot-at (basis_of w) 1 old.slots s.outsides k (Slot.Going a net) m.slots' at
@@ -140,24 +141,24 @@ the-turns users config k old new a net net' next at makes is-config s w m plain 
     going : IsGoing (basis_of w) (1 + k) a net found.0
     going = found.2
 
-    over : MakesTurn w.users (old.gens).seen config old.desk new.desk a net next net'
-    over = subst (λ (us : List User). MakesTurn us (old.gens).seen config old.desk new.desk a net next net') (sym m.users') makes
+    over : MakesTurn w.users (old.gens).seen config old.moment old.desk new.desk a net next net'
+    over = subst (λ (us : List User). MakesTurn us (old.gens).seen config old.moment old.desk new.desk a net next net') (sym m.users') makes
 
     shown' : numbered w.pubs (old.gens).seen ≡ Some config
     shown' = ap (λ (z : List Config). numbered z (old.gens).seen) m.pubs ∙ is-config
 
 -- one that has ended was put back
 pub turns-over : (users : List User) (k : ℕ) (old : Replay) (slots : List Slot) (e : Ended LinkInMemory) → slice_get old.slots k ≡ Some (Slot.Over e) → slots ≡ old.slots
-    → TurnsAt users k old (record { desk = old.desk; gens = old.gens; slots = slots; out = old.out }) true (Some (Slot.Over e))
-turns-over users k old slots e at h = (ap (λ (xs : List Slot). let new : Replay = record { desk = old.desk; gens = old.gens; slots = xs; out = old.out } in new) h, refl)
+    → TurnsAt users k old (record { desk = old.desk; gens = old.gens; moment = old.moment; slots = slots; out = old.out }) true (Some (Slot.Over e))
+turns-over users k old slots e at h = (ap (λ (xs : List Slot). let new : Replay = record { desk = old.desk; gens = old.gens; moment = old.moment; slots = xs; out = old.out } in new) h, refl)
 
 pub turns-at : (users : List User) (config : Config) (k : ℕ) (old new : Replay) (a : Assoc LinkInMemory) (net net' : NetInMemory) (next : Next LinkInMemory) (still : Bool) (before : Totals)
     → slice_get old.slots k ≡ Some (Slot.Going a net) → before ≡ totals_of a.state
-    → MakesTurn users (old.gens).seen config old.desk new.desk a net next net' → WritesTurn (old.gens).seen before next old.out new.out still
-    → new.slots ≡ slice_set old.slots k (slot_of next net') → new.gens ≡ old.gens → numbered (old.gens).configs (old.gens).seen ≡ Some config → IsPlain config
+    → MakesTurn users (old.gens).seen config old.moment old.desk new.desk a net next net' → WritesTurn (old.gens).seen before next old.out new.out still
+    → new.slots ≡ slice_set old.slots k (slot_of next net') → new.gens ≡ old.gens → new.moment ≡ old.moment → numbered (old.gens).configs (old.gens).seen ≡ Some config → IsPlain config
     → TurnsAt users k old new still (Some (Slot.Going a net))
-turns-at users config k old new a net net' next still before at totals makes writes slots gens is-config plain = λ s w m.
-    turned-at users config k old new a net net' next still before at totals makes writes slots gens is-config s w m
+turns-at users config k old new a net net' next still before at totals makes writes slots gens same-moment is-config plain = λ s w m.
+    turned-at users config k old new a net net' next still before at totals makes writes slots gens same-moment is-config s w m
     (the-turns users config k old new a net net' next at makes is-config s w m plain)
 
 -- ---- the configuration of a turn

@@ -40,13 +40,13 @@ one-worker state (ScriptLine.Stop ∷ ls) h = refl
 
 -- a desk of no lines, for as many associations as the script opens
 pub is-fresh : (desk : Book) (script : List ScriptLine) → StandsFor desk [] [] → desk.cap ≡ opens_of script → IsServed script
-    → IsBehind (users_of script) script [] start (record { desk = desk; gens = none_published; slots = []; out = [] })
+    → IsBehind (users_of script) script [] start (record { desk = desk; gens = none_published; moment = 0; slots = []; out = [] })
 is-fresh desk script stands cap served = record {
   s = first_surroundings;
   w = begins script;
   played = plays-none script;
   mirrors = record {
-    now = refl;
+    moment' = refl;
     users' = refl;
     pubs = refl;
     below = omega arith;
@@ -61,6 +61,7 @@ is-fresh desk script stands cap served = record {
     users' = λ some. absurd (omega (arith, some));
     published' = λ h. cc;
     seen' = λ h. cc;
+    moment = refl;
     sides = tt;
     plain = All-nil IsConfigured;
   };

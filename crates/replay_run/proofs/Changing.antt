@@ -94,7 +94,6 @@ going-arrives : (basis : Basis) (number : ℕ) (bytes : List ℕ) (a : Assoc Lin
     → is_served_input basis.users (o.c ++ bytes) ≡ true → IsSlot basis number (with_arrival bytes (Slot.Going a net)) (record o { c = o.c ++ bytes })
 going-arrives basis number bytes a net o h unended served = record {
   number' = h.number';
-  since = h.since;
   stands = record {
     plain = h.stands.plain;
     direct = h.stands.direct;
@@ -136,7 +135,6 @@ going-target-arrives : (basis : Basis) (number : ℕ) (bytes : List ℕ) (a : As
     → IsSlot basis number (with_target_arrival bytes (Slot.Going a net)) (record o { t = o.t ++ bytes })
 going-target-arrives basis number bytes a net o h unended = record {
   number' = h.number';
-  since = h.since;
   stands = record {
     plain = h.stands.plain;
     direct = h.stands.direct;
@@ -164,7 +162,6 @@ going-ends : (basis : Basis) (number : ℕ) (a : Assoc LinkInMemory) (net : NetI
     → IsSlot basis number (with_client_end (Slot.Going a net)) (record o { end_c = true })
 going-ends basis number a net o h unended = record {
   number' = h.number';
-  since = h.since;
   stands = record {
     plain = h.stands.plain;
     direct = h.stands.direct;
@@ -206,7 +203,6 @@ going-target-ends : (basis : Basis) (number : ℕ) (a : Assoc LinkInMemory) (net
     → IsSlot basis number (with_target_end (Slot.Going a net)) (record o { end_t = true })
 going-target-ends basis number a net o h unended = record {
   number' = h.number';
-  since = h.since;
   stands = record {
     plain = h.stands.plain;
     direct = h.stands.direct;
@@ -237,7 +233,6 @@ going-looked : (basis : Basis) (number : ℕ) (outcome : Lookup) (outer : Outer)
     → IsGoing basis number a net o → IsSlot basis number (with_lookup outcome (Slot.Going a net)) (record o { lookup = outer })
 going-looked basis number outcome outer a net o same h = record {
   number' = h.number';
-  since = h.since;
   stands = h.stands;
   arrived = h.arrived;
   ends = h.ends;
@@ -262,7 +257,6 @@ going-planned : (basis : Basis) (number : ℕ) (outcome : DialOutcome) (outer : 
     → IsGoing basis number a net o → IsSlot basis number (with_plan outcome (Slot.Going a net)) (record o { dial = outer })
 going-planned basis number outcome outer a net o same h = record {
   number' = h.number';
-  since = h.since;
   stands = h.stands;
   arrived = h.arrived;
   ends = h.ends;
@@ -330,8 +324,8 @@ changed users script lines state old slots l number test outside side slot b h a
   w = b.w;
   played = subst (λ (z : Surroundings). Played script (lines ++ l ∷ []) z b.w old.out) (h.outside' b.s ∙ outside-changed b.s number p.k outside p.o p.number' p.outside-at)
       (plays-silent script lines b.s b.w old.out l b.played (h.silent b.w));
-  mirrors = subst (λ (z : List Slot). Mirrors users (StandsFor old.desk) old.desk.cap s b.w old.gens z) (sym there) (record {
-    now = b.mirrors.now;
+  mirrors = subst (λ (z : List Slot). Mirrors users (StandsFor old.desk) old.desk.cap old.moment s b.w old.gens z) (sym there) (record {
+    moment' = b.mirrors.moment';
     users' = b.mirrors.users';
     pubs = b.mirrors.pubs;
     seen' = b.mirrors.seen';
@@ -347,6 +341,7 @@ changed users script lines state old slots l number test outside side slot b h a
     users' = λ some. b.matches.users' (let e = length-set state.sides p.k (side p.side) in omega (arith, e, some));
     published' = b.matches.published';
     seen' = b.matches.seen';
+    moment = b.matches.moment;
     sides = sides-set state.sides b.s.outsides p.k (side p.side) (outside p.o) b.matches.sides (h.is p.side p.o p.is);
     plain = b.matches.plain;
   });

@@ -1,4 +1,4 @@
--- The lines that are an event for themselves: a configuration is published, worker 1 sees it, an association is opened.
+-- The users, the moment, and the lines that are an event for themselves: a configuration is published, worker 1 sees it, an association is opened.
 use Rattle.std.proofs.Common.{ℕ, suc, ◌≡◌, ◌==◌, ◌+◌, ◌∙◌, sym, ap, subst, refl, true, ◌&&◌, nat_lt, nat_le, ◌<◌, ◌≤◌, Option, Some, None, List, [], ◌∷◌, ◌++◌, length, length-append, map, arith}
 use Rattle.std.proofs.lemmas.Bool.{eqb-true, le-leb}
 use Rattle.std.proofs.lemmas.List.{length-map, map-append}
@@ -47,6 +47,36 @@ gives users us r script lines state form allowed has b = record {
     users' = has;
     published' = b.matches.published';
     seen' = b.matches.seen';
+    moment = b.matches.moment;
+    sides = b.matches.sides;
+    plain = b.matches.plain;
+  };
+}
+
+-- ---- the moment moves
+
+pub moves : (users : List User) (now : ℕ) (r : Replay) → GoesBehind users (ScriptLine.Now now) r (record r { moment = now })
+moves users now r script lines state form allowed has b = record {
+  s = record b.s { now = now };
+  w = b.w;
+  played = plays-silent script lines b.s b.w r.out (ScriptLine.Now now) b.played refl;
+  mirrors = record {
+    moment' = refl;
+    users' = b.mirrors.users';
+    pubs = b.mirrors.pubs;
+    seen' = b.mirrors.seen';
+    below = b.mirrors.below;
+    records = b.mirrors.records;
+    slots' = b.mirrors.slots';
+    desk = b.mirrors.desk;
+    cap' = b.mirrors.cap';
+    marks = b.mirrors.marks;
+  };
+  matches = record {
+    users' = b.matches.users';
+    published' = b.matches.published';
+    seen' = b.matches.seen';
+    moment = refl;
     sides = b.matches.sides;
     plain = b.matches.plain;
   };
@@ -69,7 +99,6 @@ slots-later users pubs k number (slot ∷ slots) (o ∷ os) h = (slot-later numb
     slot-later : (n : ℕ) (slot : Slot) (o : Outside) → IsSlot (socks users pubs) n slot o → IsSlot (socks users (pubs ++ k ∷ [])) n slot o
     slot-later n (Slot.Going a net) o h = record {
       number' = h.number';
-      since = h.since;
       stands = stands-published told_of_link users pubs k a h.stands;
       arrived = h.arrived;
       ends = h.ends;
@@ -105,7 +134,7 @@ publishes users script lines state k old gens out is written form b =
           (ap (λ z. old.out ++ z) (publish-line w k (length (old.gens.configs ++ k ∷ [])) (ap length pubs)) ∙ sym written)
           (plays-event script lines b.s b.w w old.out (ScriptLine.Publish k) (Event.Publish k) [] b.played refl refl refl refl);
       mirrors = record {
-        now = b.mirrors.now;
+        moment' = b.mirrors.moment';
         users' = b.mirrors.users';
         pubs = pubs;
         seen' = b.mirrors.seen';
@@ -120,6 +149,7 @@ publishes users script lines state k old gens out is written form b =
         users' = b.matches.users';
         published' = λ h. let e = length-append old.gens.configs (k ∷ []) in omega (arith, e);
         seen' = b.matches.seen';
+        moment = b.matches.moment;
         sides = b.matches.sides;
         plain = All-push IsConfigured old.gens.configs k b.matches.plain form;
       };
@@ -168,7 +198,7 @@ sees users script lines state old gens out is written some b =
           (plays-event script lines b.s b.w w old.out (ScriptLine.See 1) (Event.See 1 (length (b.w).pubs)) [] b.played refl refl
           (see-step b.w old.gens b.mirrors.pubs b.mirrors.seen' b.mirrors.below some) refl);
       mirrors = record {
-        now = b.mirrors.now;
+        moment' = b.mirrors.moment';
         users' = b.mirrors.users';
         pubs = b.mirrors.pubs;
         seen' = refl;
@@ -183,6 +213,7 @@ sees users script lines state old gens out is written some b =
         users' = b.matches.users';
         published' = b.matches.published';
         seen' = λ h. some;
+        moment = b.matches.moment;
         sides = b.matches.sides;
         plain = b.matches.plain;
       };
@@ -190,9 +221,9 @@ sees users script lines state old gens out is written some b =
 
 -- ---- an association is opened
 
-open-line : (w : World) (number : ℕ) (peer local : Endpoint) → event_line w (Event.Open 1 number peer local 0) ≡ open_shown number
+open-line : (w : World) (number : ℕ) (peer local : Endpoint) (now : ℕ) → event_line w (Event.Open 1 number peer local now) ≡ open_shown number
 unfolding open_shown
-open-line w number peer local = refl
+open-line w number peer local now = refl
 
 sides-length : (sides : List Side) (os : List Outside) → AreSides sides os → length sides ≡ length os
 sides-length [] [] h = refl
@@ -207,9 +238,9 @@ slots-length basis number (x ∷ xs) [] h = absurd h
 slots-length basis number (x ∷ xs) (o ∷ os) h = ap (λ (n : ℕ). suc n) (slots-length basis (suc number) xs os h.1)
 
 -- nothing has happened on it
-opened-stands : (basis : Basis) (number : ℕ) (peer local : Endpoint)
-    → Stands told_of_link basis (record { state = fresh number peer local 0; client = fresh_link room_for_replies; target = None })
-opened-stands basis number peer local = record {
+opened-stands : (basis : Basis) (number : ℕ) (peer local : Endpoint) (now : ℕ)
+    → Stands told_of_link basis (record { state = fresh number peer local now; client = fresh_link room_for_replies; target = None })
+opened-stands basis number peer local now = record {
   plain = record {
     undone = refl;
     unclosed = refl;
@@ -229,11 +260,10 @@ opened-stands basis number peer local = record {
   target = (refl, refl, refl, refl);
 }
 
-opened-is : (basis : Basis) (number : ℕ) (peer local : Endpoint) → IsSlot basis number (opened_slot number peer local) nothing_yet
-opened-is basis number peer local = record {
+opened-is : (basis : Basis) (number : ℕ) (peer local : Endpoint) (now : ℕ) → IsSlot basis number (opened_slot number peer local now) nothing_yet
+opened-is basis number peer local now = record {
   number' = refl;
-  since = refl;
-  stands = opened-stands basis number peer local;
+  stands = opened-stands basis number peer local now;
   arrived = refl;
   ends = refl;
   unfailing = refl;
@@ -244,37 +274,37 @@ opened-is basis number peer local = record {
   quiet = record { grams = refl; peer = refl; no_room = refl; faults = refl };
 }
 
-open-step : (w : World) (seen : ℕ) (number : ℕ) (peer local : Endpoint) → w.seen ≡ seen_by_workers seen → (number == length w.records + 1) ≡ true
-    → step w (Event.Open 1 number peer local 0) ≡ Some (record w { records = w.records ++ fresh number peer local 0 ∷ [] })
-open-step w seen number peer local saw test =
+open-step : (w : World) (seen : ℕ) (number : ℕ) (peer local : Endpoint) (now : ℕ) → w.seen ≡ seen_by_workers seen → (number == length w.records + 1) ≡ true
+    → step w (Event.Open 1 number peer local now) ≡ Some (record w { records = w.records ++ fresh number peer local now ∷ [] })
+open-step w seen number peer local now saw test =
     ap (λ (z : List ℕ). when (nat_lt 1 (length z) && (number == length w.records + 1)) new) saw ∙ ap (λ z. when z new) test
   where
     new : World
-    new = record w { records = w.records ++ fresh number peer local 0 ∷ [] }
+    new = record w { records = w.records ++ fresh number peer local now ∷ [] }
 
 pub opens : (users : List User) (script lines : List ScriptLine) (state : State) (number : ℕ) (peer local : Endpoint) (old : Replay) (slots : List Slot) (out : List ℕ)
-    → slots ≡ old.slots ++ opened_slot number peer local ∷ [] → out ≡ old.out ++ open_shown number
+    → slots ≡ old.slots ++ opened_slot number peer local old.moment ∷ [] → out ≡ old.out ++ open_shown number
     → allows state (ScriptLine.Open 1 number peer local) ≡ true → HasUsers users (after state (ScriptLine.Open 1 number peer local)) → IsBehind users script lines state old
     → IsBehind users script (lines ++ ScriptLine.Open 1 number peer local ∷ []) (after state (ScriptLine.Open 1 number peer local)) (record old { slots = slots; out = out })
 opens users script lines state number peer local old slots out more written allowed has b = record {
   s = s;
   w = w;
   played = subst (λ (z : List ℕ). Played script (lines ++ ScriptLine.Open 1 number peer local ∷ []) s w z)
-      (ap (λ z. old.out ++ z) (open-line w number peer local) ∙ sym written)
-      (plays-event script lines b.s b.w w old.out (ScriptLine.Open 1 number peer local) (Event.Open 1 number peer local 0) [] b.played refl
-      (ap (λ n. Event.Open 1 number peer local n) (sym b.mirrors.now))
-      (open-step b.w old.gens.seen number peer local b.mirrors.seen' (ap (λ n. number == n + 1) records-count ∙ allowed)) refl);
+      (ap (λ z. old.out ++ z) (open-line w number peer local old.moment) ∙ sym written)
+      (plays-event script lines b.s b.w w old.out (ScriptLine.Open 1 number peer local) (Event.Open 1 number peer local old.moment) [] b.played refl
+      (ap (λ n. Event.Open 1 number peer local n) (sym b.mirrors.moment'))
+      (open-step b.w old.gens.seen number peer local old.moment b.mirrors.seen' (ap (λ n. number == n + 1) records-count ∙ allowed)) refl);
   mirrors = record {
-    now = b.mirrors.now;
+    moment' = b.mirrors.moment';
     users' = b.mirrors.users';
     pubs = b.mirrors.pubs;
     seen' = b.mirrors.seen';
     below = b.mirrors.below;
-    records = ap (λ z. z ++ fresh number peer local 0 ∷ []) b.mirrors.records
-        ∙ (sym (map-append record_of old.slots (opened_slot number peer local ∷ [])) ∙ ap (map record_of) (sym more));
+    records = ap (λ z. z ++ fresh number peer local old.moment ∷ []) b.mirrors.records
+        ∙ (sym (map-append record_of old.slots (opened_slot number peer local old.moment ∷ [])) ∙ ap (map record_of) (sym more));
     slots' = subst (λ (z : List Slot). AreSlots (basis_of b.w) 1 z s.outsides) (sym more)
-        (slots-more (basis_of b.w) 1 old.slots (b.s).outsides (opened_slot number peer local) nothing_yet b.mirrors.slots'
-        (subst (λ (n : ℕ). IsSlot (basis_of b.w) n (opened_slot number peer local) nothing_yet) place (opened-is (basis_of b.w) number peer local)));
+        (slots-more (basis_of b.w) 1 old.slots (b.s).outsides (opened_slot number peer local old.moment) nothing_yet b.mirrors.slots'
+        (subst (λ (n : ℕ). IsSlot (basis_of b.w) n (opened_slot number peer local old.moment) nothing_yet) place (opened-is (basis_of b.w) number peer local old.moment)));
     desk = b.mirrors.desk;
     cap' = b.mirrors.cap';
     marks = b.mirrors.marks;
@@ -283,6 +313,7 @@ opens users script lines state number peer local old slots out more written allo
     users' = has;
     published' = b.matches.published';
     seen' = b.matches.seen';
+    moment = b.matches.moment;
     sides = sides-more state.sides (b.s).outsides fresh_side nothing_yet b.matches.sides (refl, refl, refl);
     plain = b.matches.plain;
   };
@@ -292,7 +323,7 @@ opens users script lines state number peer local old slots out more written allo
     s = record b.s { outsides = (b.s).outsides ++ nothing_yet ∷ [] }
 
     w : World
-    w = record b.w { records = (b.w).records ++ fresh number peer local 0 ∷ [] }
+    w = record b.w { records = (b.w).records ++ fresh number peer local old.moment ∷ [] }
 
     slots-count : length old.slots ≡ length state.sides
     slots-count = slots-length (basis_of b.w) 1 old.slots (b.s).outsides b.mirrors.slots' ∙ sym (sides-length state.sides (b.s).outsides b.matches.sides)

@@ -207,7 +207,7 @@ none-published [] h = refl
 none-published (k ∷ ks) h = cc
 
 pub closes-unpublished : (users : List User) (script : List ScriptLine) (state : State) (old : Replay) (out : List ℕ) → out ≡ old.out ++ close_shown → length (old.gens).configs ≡ 0
-    → IsBehind users script script state old → IsPlayedOut users script (record { desk = old.desk; gens = old.gens; slots = old.slots; out = out })
+    → IsBehind users script script state old → IsPlayedOut users script (record { desk = old.desk; gens = old.gens; moment = old.moment; slots = old.slots; out = out })
 closes-unpublished users script state old out h none b = record {
   s = b.s;
   w = b.w;
@@ -218,9 +218,9 @@ closes-unpublished users script state old out h none b = record {
 
 pub closes-published : (users : List User) (script : List ScriptLine) (state : State) (old : Replay) (gens : Generations) (between out : List ℕ) → between ≡ old.out ++ close_shown
     → gens ≡ record old.gens { seen = length (old.gens).configs } → out ≡ between ++ see_shown (length (old.gens).configs) → 0 < length (old.gens).configs
-    → IsBehind users script script state old → IsInRound users script 0 true (record { desk = old.desk; gens = gens; slots = old.slots; out = out })
+    → IsBehind users script script state old → IsInRound users script 0 true (record { desk = old.desk; gens = gens; moment = old.moment; slots = old.slots; out = out })
 closes-published users script state old gens between out h is k some b =
-    subst (λ (z : Generations). IsInRound users script 0 true (record { desk = old.desk; gens = z; slots = old.slots; out = out })) (sym is) (record {
+    subst (λ (z : Generations). IsInRound users script 0 true (record { desk = old.desk; gens = z; moment = old.moment; slots = old.slots; out = out })) (sym is) (record {
       s = b.s;
       w = new;
       lines_out = old.out;
@@ -231,7 +231,7 @@ closes-published users script state old gens between out h is k some b =
           (see-step b.w old.gens (b.mirrors).pubs (b.mirrors).seen' (b.mirrors).below some)));
       written = k ∙ ap (λ (z : List ℕ). z ++ see_shown (length (old.gens).configs)) h;
       mirrors = record {
-        now = (b.mirrors).now;
+        moment' = (b.mirrors).moment';
         users' = (b.mirrors).users';
         pubs = (b.mirrors).pubs;
         seen' = refl;

@@ -41,18 +41,18 @@ use Rattle.replay_run.proofs.Allowing.{allows}
 use Rattle.replay_run.proofs.Slots.{map-set-at, get-map-at, get-set-at, slot-at, slots-set, set-same, nothing-used}
 
 -- a turn is made in the generation that was seen, on the record of its number
-turn-steps : (w : World) (gens : Generations) (config : Config) (a : Assoc LinkInMemory) (slots : List Slot) (net net' : NetInMemory) (next : Next LinkInMemory) (stands' : List Line → List StopBy → Type 0) (k : ℕ)
+turn-steps : (w : World) (gens : Generations) (config : Config) (a : Assoc LinkInMemory) (slots : List Slot) (net net' : NetInMemory) (next : Next LinkInMemory) (stands' : List Line → List StopBy → Type 0) (k now : ℕ)
     → numbered w.pubs gens.seen ≡ Some config → w.seen ≡ seen_by_workers gens.seen → w.records ≡ map record_of slots → slice_get slots k ≡ Some (Slot.Going a net) → a.state.number ≡ suc k
-    → (t : Turns told_of_link (λ (l : LinkInMemory). l.counts) stands' (context w.users w.pubs gens.seen config w.cap w.h w.marks) 0 (told_of_net net) (told_of_net net') a next)
-    → step w (Event.Turn (event_of 1 a.state.number 0 t.acts (mark_of next))) ≡ Some (made w a.state.number t.result)
-turn-steps w gens config a slots net net' next stands' k pubs seen records at number t =
+    → (t : Turns told_of_link (λ (l : LinkInMemory). l.counts) stands' (context w.users w.pubs gens.seen config w.cap w.h w.marks) now (told_of_net net) (told_of_net net') a next)
+    → step w (Event.Turn (event_of 1 a.state.number now t.acts (mark_of next))) ≡ Some (made w a.state.number t.result)
+turn-steps w gens config a slots net net' next stands' k now pubs seen records at number t =
     ap (λ (x : Option ℕ). x >>= λ g. numbered w.pubs g >>= λ c. numbered w.records a.state.number >>= λ r. turn (context_of w g c) ev r >>= λ m. Some (made w a.state.number m)) (ap (λ (z : List ℕ). slice_get z 1) seen)
     ∙ (ap (λ (x : Option Config). x >>= λ c. numbered w.records a.state.number >>= λ r. turn (context_of w gens.seen c) ev r >>= λ m. Some (made w a.state.number m)) pubs
     ∙ (ap (λ (x : Option Record). x >>= λ r. turn (context_of w gens.seen config) ev r >>= λ m. Some (made w a.state.number m)) found
     ∙ ap (λ (x : Option TurnResult). x >>= λ m. Some (made w a.state.number m)) (t.lawful 1)))
   where
     ev : TurnEvent
-    ev = event_of 1 a.state.number 0 t.acts (mark_of next)
+    ev = event_of 1 a.state.number now t.acts (mark_of next)
 
     found : numbered w.records a.state.number ≡ Some a.state
     found = ap (numbered w.records) number ∙ (ap (λ (z : List Record). slice_get z k) records ∙ get-map-at record_of slots k (Slot.Going a net) at)
@@ -97,12 +97,11 @@ target-still (Some l) None net net' o r outer h same holds plan = absurd same
 target-still t (Some l') net net' o r outer h same holds plan = target-behind t net o l' h same
 
 -- an association that goes on
-still-going : (basis : Basis) (n : ℕ) (a a' : Assoc LinkInMemory) (net net' : NetInMemory) (o : Outside) (next : Next LinkInMemory) (s : Context) (stands' : List Line → List StopBy → Type 0)
-    → IsGoing basis n a net o → s.basis ≡ basis → (t : Turns told_of_link (λ (l : LinkInMemory). l.counts) stands' s 0 (told_of_net net) (told_of_net net') a next) → left_of next ≡ a'
+still-going : (basis : Basis) (n : ℕ) (a a' : Assoc LinkInMemory) (net net' : NetInMemory) (o : Outside) (next : Next LinkInMemory) (s : Context) (stands' : List Line → List StopBy → Type 0) (now : ℕ)
+    → IsGoing basis n a net o → s.basis ≡ basis → (t : Turns told_of_link (λ (l : LinkInMemory). l.counts) stands' s now (told_of_net net) (told_of_net net') a next) → left_of next ≡ a'
     → IsPlainRecord (s.basis).users a'.state → IsGoing basis n a' net' o
-still-going basis n a a' net net' o next s stands' h over t is plain = subst (λ (z : Assoc LinkInMemory). IsGoing basis n z net' o) is (record {
+still-going basis n a a' net net' o next s stands' now h over t is plain = subst (λ (z : Assoc LinkInMemory). IsGoing basis n z net' o) is (record {
   number' = ap (λ (r : Record). r.number) t.state' ∙ (t.number ∙ h.number');
-  since = ap (λ (r : Record). r.since) t.state' ∙ (t.since ∙ h.since);
   stands = record {
     plain = subst (λ (z : Assoc LinkInMemory). IsPlainRecord basis.users z.state) (sym is) (subst (λ (z : Basis). IsPlainRecord z.users a'.state) over plain);
     direct = subst (λ (z : Basis). GoesDirect z ((left_of next).state).decisions) over (subst (λ (r : Record). GoesDirect s.basis r.decisions) (sym t.state') t.direct);
@@ -121,22 +120,22 @@ still-going basis n a a' net net' o next s stands' h over t is plain = subst (λ
   quiet = h.quiet;
 })
 
-slot-still : (basis : Basis) (n : ℕ) (a : Assoc LinkInMemory) (net net' : NetInMemory) (o : Outside) (next : Next LinkInMemory) (s : Context) (stands' : List Line → List StopBy → Type 0)
-    → IsGoing basis n a net o → s.basis ≡ basis → (t : Turns told_of_link (λ (l : LinkInMemory). l.counts) stands' s 0 (told_of_net net) (told_of_net net') a next) → IsSlot basis n (slot_of next net') o
-slot-still basis n a net net' o (Next.Wait a') s stands' h over t = still-going basis n a a' net net' o (Next.Wait a') s stands' h over t refl t.goes_on
-slot-still basis n a net net' o (Next.Again a') s stands' h over t = still-going basis n a a' net net' o (Next.Again a') s stands' h over t refl t.goes_on
-slot-still basis n a net net' o (Next.Done e) s stands' h over t = t.goes_on
+slot-still : (basis : Basis) (n : ℕ) (a : Assoc LinkInMemory) (net net' : NetInMemory) (o : Outside) (next : Next LinkInMemory) (s : Context) (stands' : List Line → List StopBy → Type 0) (now : ℕ)
+    → IsGoing basis n a net o → s.basis ≡ basis → (t : Turns told_of_link (λ (l : LinkInMemory). l.counts) stands' s now (told_of_net net) (told_of_net net') a next) → IsSlot basis n (slot_of next net') o
+slot-still basis n a net net' o (Next.Wait a') s stands' now h over t = still-going basis n a a' net net' o (Next.Wait a') s stands' now h over t refl t.goes_on
+slot-still basis n a net net' o (Next.Again a') s stands' now h over t = still-going basis n a a' net net' o (Next.Again a') s stands' now h over t refl t.goes_on
+slot-still basis n a net net' o (Next.Done e) s stands' now h over t = t.goes_on
 
 -- ---- the whole
 
 -- the turn of the association at this place: its event, the world behind it, and that the replay holds what that is
 pub record IsTurned (users : List User) (s : Surroundings) (w : World) (gens : Generations) (slots : List Slot) (k : ℕ) (ev : TurnEvent) (slot : Slot) (left : Record)
-    (stands' : List Line → List StopBy → Type 0) (cap : ℕ) : Type 0 where
+    (stands' : List Line → List StopBy → Type 0) (cap now : ℕ) : Type 0 where
   pub new : World
   pub is_turn : IsTurnOf s w 1 (suc k) ev []
   pub stepped : step w (Event.Turn ev) ≡ Some new
   pub used : used_up s ev [] ≡ s
-  pub mirrors : Mirrors users stands' cap s new gens (slice_set slots k slot)
+  pub mirrors : Mirrors users stands' cap now s new gens (slice_set slots k slot)
   pub line' : event_line new (Event.Turn ev) ≡ turn_line gens.seen ev (Some left)
   pub others : (j : ℕ) → (j ≡ k → ⊥) → slice_get new.records j ≡ slice_get w.records j
 
@@ -148,12 +147,12 @@ other-places (y ∷ ys) (suc k) zero x h = refl
 other-places (y ∷ ys) (suc k) (suc j) x h = other-places ys k j x (λ e. h (ap (λ (n : ℕ). suc n) e))
 
 pub turned : (users : List User) (s : Surroundings) (w : World) (gens : Generations) (config : Config) (slots : List Slot) (k : ℕ) (a : Assoc LinkInMemory) (net net' : NetInMemory) (next : Next LinkInMemory)
-    (stands stands' : List Line → List StopBy → Type 0) (cap : ℕ)
-    → Mirrors users stands cap s w gens slots → numbered gens.configs gens.seen ≡ Some config → slice_get slots k ≡ Some (Slot.Going a net)
-    → (t : Turns told_of_link (λ (l : LinkInMemory). l.counts) stands' (context w.users w.pubs gens.seen config w.cap w.h w.marks) 0 (told_of_net net) (told_of_net net') a next)
+    (stands stands' : List Line → List StopBy → Type 0) (cap now : ℕ)
+    → Mirrors users stands cap now s w gens slots → numbered gens.configs gens.seen ≡ Some config → slice_get slots k ≡ Some (Slot.Going a net)
+    → (t : Turns told_of_link (λ (l : LinkInMemory). l.counts) stands' (context w.users w.pubs gens.seen config w.cap w.h w.marks) now (told_of_net net) (told_of_net net') a next)
     → last_mark (t.result).marks ≡ None
-    → IsTurned users s w gens slots k (event_of 1 a.state.number 0 t.acts (mark_of next)) (slot_of next net') (t.result).left stands' cap
-turned users s w gens config slots k a net net' next stands stands' cap m is at t mark = record {
+    → IsTurned users s w gens slots k (event_of 1 a.state.number now t.acts (mark_of next)) (slot_of next net') (t.result).left stands' cap now
+turned users s w gens config slots k a net net' next stands stands' cap now m is at t mark = record {
   new = new;
   is_turn = record {
     worker' = refl;
@@ -179,7 +178,8 @@ turned users s w gens config slots k a net net' next stands stands' cap m is at 
       o = o;
       next = next;
       stands' = stands';
-      now = m.now;
+      now = now;
+      moment = m.moment';
       marks = m.marks;
       going = going;
       turns = t;
@@ -190,7 +190,7 @@ turned users s w gens config slots k a net net' next stands stands' cap m is at 
   stepped = stepped;
   used = nothing-used s ev k o number found.1 refl going.quiet.faults;
   mirrors = record {
-    now = m.now;
+    moment' = m.moment';
     users' = m.users';
     pubs = m.pubs;
     seen' = m.seen';
@@ -200,7 +200,7 @@ turned users s w gens config slots k a net net' next stands stands' cap m is at 
         ∙ (ap (λ (r : Record). slice_set (map record_of slots) k r) (sym (slot-record next net' ∙ t.state'))
         ∙ sym (map-set-at record_of slots k (slot_of next net'))));
     slots' = subst (λ (os : List Outside). AreSlots (basis_of w) 1 (slice_set slots k (slot_of next net')) os) (set-same s.outsides k o found.1)
-        (slots-set (basis_of w) 1 slots s.outsides k (slot_of next net') o m.slots' (slot-still (basis_of w) (1 + k) a net net' o next _ stands' found.2 refl t));
+        (slots-set (basis_of w) 1 slots s.outsides k (slot_of next net') o m.slots' (slot-still (basis_of w) (1 + k) a net net' o next _ stands' now found.2 refl t));
     desk = t.desk;
     cap' = m.cap';
     marks = mark;
@@ -211,7 +211,7 @@ turned users s w gens config slots k a net net' next stands stands' cap m is at 
 }
   where
     ev : TurnEvent
-    ev = event_of 1 a.state.number 0 t.acts (mark_of next)
+    ev = event_of 1 a.state.number now t.acts (mark_of next)
 
     new : World
     new = made w a.state.number t.result
@@ -241,7 +241,7 @@ turned users s w gens config slots k a net net' next stands stands' cap m is at 
     stood = stood'
 
     stepped : step w (Event.Turn ev) ≡ Some new
-    stepped = turn-steps w gens config a slots net net' next stands' k shown m.seen' m.records at number t
+    stepped = turn-steps w gens config a slots net net' next stands' k now shown m.seen' m.records at number t
 
     behind : numbered new.records a.state.number ≡ Some (t.result).left
     behind = numbered-set w k t.result a.state a.state.number number stood'

@@ -26,7 +26,7 @@ pub record IsTurned (users : List User) (s : Surroundings) (w : World) (k : ℕ)
   pub stepped : step w (Event.Turn ev) ≡ Some world
   pub used : used_up s ev [] ≡ s
   pub over : is_over (Event.Turn ev) ≡ true
-  pub mirrors : Mirrors users (StandsFor new.desk) new.desk.cap s world new.gens new.slots
+  pub mirrors : Mirrors users (StandsFor new.desk) new.desk.cap new.moment s world new.gens new.slots
   pub still' : still ≡ is_still ev
   pub line : event_line world (Event.Turn ev) ≡ turn_shown old.gens.seen ev left
   pub out : new.out ≡ old.out ++ turn_shown old.gens.seen ev left
@@ -35,7 +35,7 @@ pub record IsTurned (users : List User) (s : Surroundings) (w : World) (k : ℕ)
   pub count : (slot : Slot) × (new.slots ≡ slice_set old.slots k slot)
 
 abbrev pub TurnsAt : List User → ℕ → Replay → Replay → Bool → Option Slot → Type 0
-TurnsAt users k old new still (Some (Slot.Going a net)) = (s : Surroundings) (w : World) → Mirrors users (StandsFor old.desk) old.desk.cap s w old.gens old.slots → IsTurned users s w k old new still
+TurnsAt users k old new still (Some (Slot.Going a net)) = (s : Surroundings) (w : World) → Mirrors users (StandsFor old.desk) old.desk.cap old.moment s w old.gens old.slots → IsTurned users s w k old new still
 TurnsAt users k old new still (Some (Slot.Over e)) = (new ≡ old) × (still ≡ true)
 TurnsAt users k old new still (Some Slot.Away) = Unit {0}
 TurnsAt users k old new still None = Unit {0}

@@ -19,7 +19,7 @@ pub record IsBehind (users : List User) (script lines : List ScriptLine) (state 
   pub s : Surroundings
   pub w : World
   pub played : Played script lines s w r.out
-  pub mirrors : Mirrors users (StandsFor r.desk) r.desk.cap s w r.gens r.slots
+  pub mirrors : Mirrors users (StandsFor r.desk) r.desk.cap r.moment s w r.gens r.slots
   pub matches : Matches users state s r.gens
 
 -- a line that is served there
@@ -46,7 +46,7 @@ pub record IsInRound (users : List User) (script : List ScriptLine) (at : ℕ) (
   pub rounds : InRounds script s w (next_in_round (going_from (suc at) (drop at w.records)) still (Some w)).0
       (next_in_round (going_from (suc at) (drop at w.records)) still (Some w)).1 lines_out out
   pub written : r.out ≡ (lines_out ++ close_shown) ++ out
-  pub mirrors : Mirrors users (StandsFor r.desk) r.desk.cap s w r.gens r.slots
+  pub mirrors : Mirrors users (StandsFor r.desk) r.desk.cap r.moment s w r.gens r.slots
   pub seen : HasSeen r.gens
 
 -- all was played, and what became of each association is still to be written
@@ -54,7 +54,7 @@ pub record IsPlayedOut (users : List User) (script : List ScriptLine) (r : Repla
   pub s : Surroundings
   pub w : World
   pub done : IsReplay script w (r.out ++ ends w)
-  pub mirrors : Mirrors users (StandsFor r.desk) r.desk.cap s w r.gens r.slots
+  pub mirrors : Mirrors users (StandsFor r.desk) r.desk.cap r.moment s w r.gens r.slots
 
 -- a whole round: the rounds are over where it was still, else the next one begins
 abbrev pub OnRound : List User → List ScriptLine → Bool → Replay → Type 0

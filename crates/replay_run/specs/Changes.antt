@@ -77,6 +77,6 @@ MayArriveAtTarget slot = Unit {0}
 abbrev pub room_for_replies : ℕ
 room_for_replies = 64
 
--- an association on which nothing has happened, with the net whose next dial is refused
-abbrev pub opened_slot : ℕ → Endpoint → Endpoint → Slot
-opened_slot number peer local = Slot.Going (record { state = fresh number peer local 0; client = fresh_link room_for_replies; target = None }) (fresh_net 0)
+-- an association that was opened at this moment and on which nothing has happened, with the net whose next dial is refused
+abbrev pub opened_slot : ℕ → Endpoint → Endpoint → ℕ → Slot
+opened_slot number peer local now = Slot.Going (record { state = fresh number peer local now; client = fresh_link room_for_replies; target = None }) (fresh_net 0)

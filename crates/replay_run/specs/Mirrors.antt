@@ -49,7 +49,6 @@ TargetMirrors (Some link) net o = TargetIs link o
 -- the client's link has room for all replies and for all that arrives from the target, and a lookup comes out as the script says
 pub record IsGoing (basis : Basis) (number : ℕ) (a : Assoc LinkInMemory) (net : NetInMemory) (o : Outside) : Type 0 where
   pub number' : a.state.number ≡ number
-  pub since : a.state.since ≡ 0
   pub stands : Stands told_of_link basis a
   pub arrived : a.client.arrived ≡ o.c
   pub ends : a.client.ends ≡ o.end_c
@@ -84,9 +83,9 @@ AreSlots basis number _ _ = ⊥
 abbrev pub seen_by_workers : ℕ → List ℕ
 seen_by_workers seen = 0 ∷ seen ∷ []
 
--- the replay holds what the world, with these users, and the outside are
-pub record Mirrors (users : List User) (stands : List Line → List StopBy → Type 0) (cap : ℕ) (s : Surroundings) (w : World) (gens : Generations) (slots : List Slot) : Type 0 where
-  pub now : s.now ≡ 0
+-- the replay holds what the world, with these users, and the outside are at this moment
+pub record Mirrors (users : List User) (stands : List Line → List StopBy → Type 0) (cap moment : ℕ) (s : Surroundings) (w : World) (gens : Generations) (slots : List Slot) : Type 0 where
+  pub moment' : s.now ≡ moment
   pub users' : w.users ≡ users
   pub pubs : w.pubs ≡ gens.configs
   pub seen' : w.seen ≡ seen_by_workers gens.seen
@@ -117,6 +116,7 @@ pub record Matches (users : List User) (state : State) (s : Surroundings) (gens 
   pub users' : HasUsers users state
   pub published' : state.published ≡ true → 0 < length gens.configs
   pub seen' : state.seen ≡ true → 0 < gens.seen
+  pub moment : state.moment ≡ s.now
   pub sides : AreSides state.sides s.outsides
   pub plain : All IsConfigured gens.configs
 

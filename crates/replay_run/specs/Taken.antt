@@ -37,13 +37,13 @@ slot_of (Next.Wait a) net = Slot.Going a net
 slot_of (Next.Again a) net = Slot.Going a net
 slot_of (Next.Done e) net = Slot.Over e
 
--- a turn that was made over these users in this generation at the moment 0, from whatever the desk stood for
-pub record MakesTurn (users : List User) (generation : ℕ) (config : Config) (desk desk' : Book) (a : Assoc LinkInMemory) (net : NetInMemory) (next : Next LinkInMemory) (net' : NetInMemory) : Type 0 where
+-- a turn that was made over these users in this generation at this moment, from whatever the desk stood for
+pub record MakesTurn (users : List User) (generation : ℕ) (config : Config) (now : ℕ) (desk desk' : Book) (a : Assoc LinkInMemory) (net : NetInMemory) (next : Next LinkInMemory) (net' : NetInMemory) : Type 0 where
   pub cap : desk'.cap ≡ desk.cap
   pub mark : desk'.stopped ≡ None
   pub turns : (pubs : List Config) (h : List Line) (marks : List StopBy) → StandsFor desk h marks → Stands told_of_link (socks users pubs) a → TellsServed users (told_of_link a.client)
-      → numbered pubs generation ≡ Some config → IsPlain config → a.state.since ≡ 0
-      → Turns told_of_link (λ (l : LinkInMemory). l.counts) (StandsFor desk') (context users pubs generation config desk.cap h marks) 0 (told_of_net net) (told_of_net net') a next
+      → numbered pubs generation ≡ Some config → IsPlain config
+      → Turns told_of_link (λ (l : LinkInMemory). l.counts) (StandsFor desk') (context users pubs generation config desk.cap h marks) now (told_of_net net) (told_of_net net') a next
 
 -- its line behind the text, and whether nothing came of it
 pub record WritesTurn (generation : ℕ) (before : Totals) (next : Next LinkInMemory) (old new : List ℕ) (still : Bool) : Type 0 where

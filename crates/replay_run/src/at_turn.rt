@@ -11,8 +11,8 @@ use std::alloc::{AllocError, Global};
 use user_login::Users;
 
 impl Replay {
-    /// A turn on the association at this place, in the generation that was seen last, with its line; and whether nothing came
-    /// of it. One that has ended stays as it is.
+    /// A turn on the association at this place, in the generation that was seen last and at the moment of the replay, with its
+    /// line; and whether nothing came of it. One that has ended stays as it is.
     pub fn turn_at(&mut self, alloc: Global, users: &Users, at: usize) -> Result<bool, AllocError>
         requires seen { HasSeen self.old.gens }
         requires below { self.old.gens.seen ≤ length self.old.gens.configs }
@@ -26,7 +26,15 @@ impl Replay {
             Slot::Going { assoc, mut net } => {
                 let snap = self.gens.snap();
                 let before = Totals::of(&assoc.state);
-                let next = make_turn(alloc, snap, users, &mut self.desk, assoc, &mut net)?;
+                let next = make_turn(
+                    alloc,
+                    snap,
+                    users,
+                    &mut self.desk,
+                    assoc,
+                    &mut net,
+                    self.moment,
+                )?;
                 let still = write_turn(alloc, &mut self.out, snap.number, before, &next)?;
                 self.slots.set(at, to_slot(next, net));
                 Ok(still)

@@ -1,7 +1,7 @@
 ghost use Rattle.std.specs.Prelude.{◌≡◌, ◌<◌, IfOk, IfSome, List as Items, length};
 ghost use Rattle.conf_model.specs.declared.user.User.{User as SomeUser};
 ghost use Rattle.net_ends.specs.InMemory.{fresh_link, fresh_net};
-ghost use Rattle.socks_machine.specs.declared.script.ScriptLine.TheVariants.{Publish, See, Open};
+ghost use Rattle.socks_machine.specs.declared.script.ScriptLine.TheVariants.{Publish, See, Open, Now};
 ghost use Rattle.socks_machine.specs.Step.{fresh};
 ghost use Rattle.replay_run.specs.Behind.{GoesBehind};
 ghost use Rattle.replay_run.specs.Changes.{opened_slot};
@@ -19,16 +19,16 @@ use std::alloc::{AllocError, Global};
 /// Room at the client's link for all replies of the proxy, in bytes.
 const REPLIES: usize = 64;
 
-/// The association of this number, on which nothing has happened.
-fn opened(alloc: Global, number: u64, peer: Endpoint, local: Endpoint) -> Option<Slot>
-    ensures { IfSome result (λ slot. slot ≡ opened_slot number peer local) }
+/// The association of this number that is opened at this moment, on which nothing has happened yet.
+fn opened(alloc: Global, number: u64, peer: Endpoint, local: Endpoint, now: u64) -> Option<Slot>
+    ensures { IfSome result (λ slot. slot ≡ opened_slot number peer local now) }
 {
     match MemLink::make(alloc, REPLIES) {
         Err(_) => None,
         Ok(client) => match MemNet::make(alloc, 0) {
             Err(_) => None,
             Ok(net) => Some(Slot::Going {
-                assoc: Assoc::open(alloc, number, client, peer, local, 0),
+                assoc: Assoc::open(alloc, number, client, peer, local, now),
                 net,
             }),
         },
@@ -66,12 +66,19 @@ impl Replay {
     ) -> Result<(), AllocError>
         ensures { IfOk result (λ _. (users : Items SomeUser) → GoesBehind users (Open 1 number peer local) self.old self.new) }
     {
-        match opened(alloc, number, peer, local) {
+        match opened(alloc, number, peer, local, self.moment) {
             None => Err(AllocError),
             Some(slot) => {
                 self.slots.push(slot)?;
                 show_open(alloc, &mut self.out, number)
             }
         }
+    }
+
+    /// The line `now`.
+    pub fn now(&mut self, now: u64)
+        ensures { (users : Items SomeUser) → GoesBehind users (Now now) self.old self.new }
+    {
+        self.moment = now;
     }
 }

@@ -55,6 +55,7 @@ impl Replay {
             Ok(desk) => Ok(Replay {
                 desk,
                 gens: ListGens::make(alloc),
+                moment: 0,
                 slots: List::make(alloc),
                 out: Text::make(alloc),
             }),
@@ -86,6 +87,7 @@ impl Replay {
             ScriptLine::TargetEnd(number) => self.target_end(*number),
             ScriptLine::Lookup(number, outer) => self.lookup(*number, *outer),
             ScriptLine::Dial(number, outer) => self.dial(*number, *outer),
+            ScriptLine::Now(now) => self.now(*now),
             ScriptLine::Turn(_, number) => self.turn(alloc, users, *number)?,
             _ => {}
         }
@@ -120,6 +122,7 @@ pub fn replay(alloc: Global, script: &List<ScriptLine>) -> Result<Text, AllocErr
             let Replay {
                 desk,
                 gens,
+                moment,
                 slots,
                 out,
             } = replay;

@@ -63,7 +63,7 @@ fn is_still(mark: NextMark, made: Totals) -> bool
     waits(mark) && made.are_zero()
 }
 
-/// A turn of the one worker on an association, in the generation that it saw, at the moment 0. Where the desk's mark stands,
+/// A turn of the one worker on an association, in the generation that it saw, at this moment. Where the desk's mark stands,
 /// which comes only behind line 2^64 - 1 of the decision history, it is `Err`.
 pub fn make_turn(
     alloc: Global,
@@ -72,11 +72,21 @@ pub fn make_turn(
     desk: &mut Desk,
     assoc: Assoc<MemLink>,
     net: &mut MemNet,
+    now: u64,
 ) -> Result<Next<MemLink>, AllocError>
     requires { FitsNumbers (arc_value snap.now.config) }
-    ensures { IfOk result (λ next. MakesTurn users.now snap.now.number (arc_value snap.now.config) desk.old desk.new assoc net.old next net.new) }
+    ensures { IfOk result (λ next. MakesTurn users.now snap.now.number (arc_value snap.now.config) now desk.old desk.new assoc net.old next net.new) }
 {
-    let next = turn(alloc, assoc, snap.number, &snap.config, users, desk, net, 0)?;
+    let next = turn(
+        alloc,
+        assoc,
+        snap.number,
+        &snap.config,
+        users,
+        desk,
+        net,
+        now,
+    )?;
     if desk.mark().is_some() {
         return Err(AllocError);
     }

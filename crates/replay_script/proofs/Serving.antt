@@ -36,6 +36,7 @@ spelled_served text (ScriptLine.ClientEnd n) h = tt
 spelled_served text (ScriptLine.TargetEnd n) h = tt
 spelled_served text (ScriptLine.Lookup n outer) h = found_served h.2.1 outer h.2.3.1
 spelled_served text (ScriptLine.Dial n outer) h = outcome_served h.2.1 outer h.2.3.1
+spelled_served text (ScriptLine.Now n) h = tt
 spelled_served text (ScriptLine.Turn w n) h = h.0
 spelled_served text _ h = absurd h
 

@@ -1,5 +1,5 @@
 -- A text spells at most one line.
-use Rattle.std.proofs.Common.{◌≡◌, ◌≢◌, ◌<◌, ◌≤◌, ◌^◌, ℕ, true, List, [], ◌∷◌, ◌++◌, ◌⊎◌, inl, inr, Some, None, Result, Ok, Err, codes, get_or, sym, subst, ap, ◌∙◌, refl, arith}
+use Rattle.std.proofs.Common.{◌≡◌, ◌≢◌, ◌<◌, ◌≤◌, ◌+◌, ◌*◌, ◌^◌, ℕ, true, List, [], ◌∷◌, ◌++◌, ◌⊎◌, inl, inr, Some, None, Result, Ok, Err, codes, get_or, sym, subst, ap, ◌∙◌, refl, arith}
 use Rattle.std.proofs.lemmas.Bool.Decides.{nat_tests}
 use Rattle.std.proofs.lemmas.Fmt.{decimal_injective}
 use Rattle.addr_pattern.specs.declared.addr.Addr.{Addr}
@@ -142,31 +142,39 @@ target_end text n m xs h k =
 
 -- ---- which form it is
 
--- the second byte of a line of this form
+abbrev two_bytes : ℕ → ℕ → ℕ
+two_bytes a b = a * 256 + b
+
+abbrev front_code : List ℕ → ℕ
+front_code text = two_bytes (get_or text 0 0) (get_or text 1 0)
+
+-- the first two bytes of a line of this form
 unfoldable code : ScriptLine → ℕ
-code (ScriptLine.See w) = 101
-code (ScriptLine.Open w n p a) = 112
-code (ScriptLine.Client n xs) = 108
-code (ScriptLine.Target n xs) = 97
-code (ScriptLine.ClientEnd n) = 108
-code (ScriptLine.TargetEnd n) = 97
-code (ScriptLine.Lookup n o) = 111
-code (ScriptLine.Dial n o) = 105
-code (ScriptLine.Turn w n) = 117
+code (ScriptLine.See w) = two_bytes 115 101
+code (ScriptLine.Open w n p a) = two_bytes 111 112
+code (ScriptLine.Client n xs) = two_bytes 99 108
+code (ScriptLine.Target n xs) = two_bytes 116 97
+code (ScriptLine.ClientEnd n) = two_bytes 99 108
+code (ScriptLine.TargetEnd n) = two_bytes 116 97
+code (ScriptLine.Lookup n o) = two_bytes 108 111
+code (ScriptLine.Dial n o) = two_bytes 100 105
+code (ScriptLine.Now n) = two_bytes 110 111
+code (ScriptLine.Turn w n) = two_bytes 116 117
 code _ = 0
 
-second : (text : List ℕ) (l : ScriptLine) → Spells text l → (get_or text 1 0 ≡ code l) × (0 < code l)
+begins_with_code : (text : List ℕ) (l : ScriptLine) → Spells text l → (front_code text ≡ code l) × (0 < code l)
 unfolding code
-second text (ScriptLine.See w) h = (ap (λ (z : List ℕ). get_or z 1 0) h.1, omega arith)
-second text (ScriptLine.Open w n p a) h = (ap (λ (z : List ℕ). get_or z 1 0) h.1.1, omega arith)
-second text (ScriptLine.Client n xs) h = (ap (λ (z : List ℕ). get_or z 1 0) h.0.1, omega arith)
-second text (ScriptLine.Target n xs) h = (ap (λ (z : List ℕ). get_or z 1 0) h.0.1, omega arith)
-second text (ScriptLine.ClientEnd n) h = (ap (λ (z : List ℕ). get_or z 1 0) h.1, omega arith)
-second text (ScriptLine.TargetEnd n) h = (ap (λ (z : List ℕ). get_or z 1 0) h.1, omega arith)
-second text (ScriptLine.Lookup n o) h = (ap (λ (z : List ℕ). get_or z 1 0) h.1, omega arith)
-second text (ScriptLine.Dial n o) h = (ap (λ (z : List ℕ). get_or z 1 0) h.1, omega arith)
-second text (ScriptLine.Turn w n) h = (ap (λ (z : List ℕ). get_or z 1 0) h.1.1, omega arith)
-second text _ h = absurd h
+begins_with_code text (ScriptLine.See w) h = (ap front_code h.1, omega arith)
+begins_with_code text (ScriptLine.Open w n p a) h = (ap front_code h.1.1, omega arith)
+begins_with_code text (ScriptLine.Client n xs) h = (ap front_code h.0.1, omega arith)
+begins_with_code text (ScriptLine.Target n xs) h = (ap front_code h.0.1, omega arith)
+begins_with_code text (ScriptLine.ClientEnd n) h = (ap front_code h.1, omega arith)
+begins_with_code text (ScriptLine.TargetEnd n) h = (ap front_code h.1, omega arith)
+begins_with_code text (ScriptLine.Lookup n o) h = (ap front_code h.1, omega arith)
+begins_with_code text (ScriptLine.Dial n o) h = (ap front_code h.1, omega arith)
+begins_with_code text (ScriptLine.Now n) h = (ap front_code h.1, omega arith)
+begins_with_code text (ScriptLine.Turn w n) h = (ap front_code h.1.1, omega arith)
+begins_with_code text _ h = absurd h
 
 same_form : (text : List ℕ) (l m : ScriptLine) → code l ≡ code m → 0 < code l → Spells text l → Spells text m → l ≡ m
 unfolding code
@@ -181,6 +189,7 @@ same_form text (ScriptLine.ClientEnd n) (ScriptLine.ClientEnd m) e s h k = let r
 same_form text (ScriptLine.TargetEnd n) (ScriptLine.TargetEnd m) e s h k = let r = one_numbered (codes "targetend ") text n m h k in cc r
 same_form text (ScriptLine.Lookup n a) (ScriptLine.Lookup m b) e s h k = let r = one_lookup text n m a b h k in cc (r.0, r.1)
 same_form text (ScriptLine.Dial n a) (ScriptLine.Dial m b) e s h k = let r = one_dial text n m a b h k in cc (r.0, r.1)
+same_form text (ScriptLine.Now n) (ScriptLine.Now m) e s h k = let r = one_numbered (codes "now ") text n m h k in cc r
 same_form text (ScriptLine.Turn w n) (ScriptLine.Turn v m) e s h k =
     let r = one_numbered (codes "turn 1 ") text n m h.1 k.1 in
     let x : w ≡ v = h.0 ∙ sym k.0 in
@@ -194,8 +203,8 @@ same_form text l m e s h k = absurd (omega (arith, e, s))
 -- a text is at most one line
 pub one_line : (text : List ℕ) (l m : ScriptLine) → Spells text l → Spells text m → l ≡ m
 one_line text l m h k =
-    let a = second text l h in
-    let b = second text m k in
+    let a = begins_with_code text l h in
+    let b = begins_with_code text m k in
     same_form text l m (sym a.0 ∙ b.0) a.1 h k
 
 -- no line begins as one that counts others, or as one that is skipped
@@ -214,6 +223,7 @@ head_apart text (ScriptLine.ClientEnd n) h = other_head (get_or text 0 0) 99 (ap
 head_apart text (ScriptLine.TargetEnd n) h = other_head (get_or text 0 0) 116 (ap (λ (z : List ℕ). get_or z 0 0) h.1) (omega arith, λ f. absurd (omega (arith, f)), λ f. absurd (omega (arith, f)))
 head_apart text (ScriptLine.Lookup n o) h = other_head (get_or text 0 0) 108 (ap (λ (z : List ℕ). get_or z 0 0) h.1) (omega arith, λ f. absurd (omega (arith, f)), λ f. absurd (omega (arith, f)))
 head_apart text (ScriptLine.Dial n o) h = other_head (get_or text 0 0) 100 (ap (λ (z : List ℕ). get_or z 0 0) h.1) (omega arith, λ f. absurd (omega (arith, f)), λ f. absurd (omega (arith, f)))
+head_apart text (ScriptLine.Now n) h = other_head (get_or text 0 0) 110 (ap (λ (z : List ℕ). get_or z 0 0) h.1) (omega arith, λ f. absurd (omega (arith, f)), λ f. absurd (omega (arith, f)))
 head_apart text (ScriptLine.Turn w n) h = other_head (get_or text 0 0) 116 (ap (λ (z : List ℕ). get_or z 0 0) h.1.1) (omega arith, λ f. absurd (omega (arith, f)), λ f. absurd (omega (arith, f)))
 head_apart text _ h = absurd h
 

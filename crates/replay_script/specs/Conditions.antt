@@ -1,5 +1,5 @@
 -- Under which conditions a script's lines are served: one worker, and clients whose input is served.
-use Rattle.std.specs.Prelude.{◌≡◌, ◌≤◌, ◌+◌, ◌-◌, ℕ, zero, suc, Bool, true, false, not, ◌&&◌, ◌==◌, List, [], ◌∷◌, ◌++◌, Option, Some, None, length, slice_get, slice_set}
+use Rattle.std.specs.Prelude.{◌≡◌, ◌≤◌, ◌+◌, ◌-◌, ℕ, zero, suc, Bool, true, false, not, ◌&&◌, ◌==◌, nat_le, List, [], ◌∷◌, ◌++◌, Option, Some, None, length, slice_get, slice_set}
 use Rattle.conf_model.specs.declared.user.User.{User}
 use Rattle.conf_model.specs.Plain.{IsPlain}
 use Rattle.rule_list.specs.Numbers.{FitsNumbers}
@@ -12,7 +12,7 @@ use Rattle.replay_script.specs.declared.state.Side.{Side}
 use Rattle.replay_script.specs.declared.state.State.{State}
 
 abbrev pub start : State
-start = record { users = []; given = false; published = false; seen = false; sides = [] }
+start = record { users = []; given = false; published = false; seen = false; moment = 0; sides = [] }
 
 abbrev pub fresh_side : Side
 fresh_side = record { c = []; end_c = false; end_t = false; looked = false; dialled = false }
@@ -48,6 +48,7 @@ allows s (ScriptLine.ClientEnd a) = on_side (side_of s a) (λ side. not side.end
 allows s (ScriptLine.TargetEnd a) = on_side (side_of s a) (λ side. not side.end_t)
 allows s (ScriptLine.Lookup a outer) = on_side (side_of s a) (λ side. not side.looked)
 allows s (ScriptLine.Dial a outer) = on_side (side_of s a) (λ side. not side.dialled)
+allows s (ScriptLine.Now n) = nat_le s.moment n
 allows s (ScriptLine.Turn w a) = s.seen && on_side (side_of s a) (λ side. true)
 allows s _ = false
 
@@ -71,6 +72,7 @@ after s (ScriptLine.ClientEnd a) = change_side s a (λ side. record side { end_c
 after s (ScriptLine.TargetEnd a) = change_side s a (λ side. record side { end_t = true })
 after s (ScriptLine.Lookup a outer) = change_side s a (λ side. record side { looked = true })
 after s (ScriptLine.Dial a outer) = change_side s a (λ side. record side { dialled = true })
+after s (ScriptLine.Now n) = record s { moment = n }
 after s _ = s
 
 -- ---- the forms that are served
@@ -100,6 +102,7 @@ IsServedForm (ScriptLine.ClientEnd a) = Unit {0}
 IsServedForm (ScriptLine.TargetEnd a) = Unit {0}
 IsServedForm (ScriptLine.Lookup a outer) = IsServedLookup outer
 IsServedForm (ScriptLine.Dial a outer) = IsServedOutcome outer
+IsServedForm (ScriptLine.Now n) = Unit {0}
 IsServedForm (ScriptLine.Turn w a) = w ≡ 1
 IsServedForm _ = ⊥
 

@@ -23,7 +23,7 @@ IsAddress text a = addr_read text ≡ Ok a
 unfoldable pub IsHex : List ℕ → List ℕ → Type 0
 IsHex text bytes = (0 < length bytes) × (decode_of text ≡ Ok bytes)
 
--- a word, and the number of an association
+-- a word, and the number of an association or of seconds
 abbrev pub IsNumbered : List ℕ → List ℕ → ℕ → Type 0
 IsNumbered front text n = After front text (λ rest. IsNumber largest rest n)
 
@@ -80,6 +80,7 @@ Spells text (ScriptLine.ClientEnd n) = IsNumbered (codes "clientend ") text n
 Spells text (ScriptLine.TargetEnd n) = IsNumbered (codes "targetend ") text n
 Spells text (ScriptLine.Lookup n outer) = IsLookup text n outer
 Spells text (ScriptLine.Dial n outer) = IsDial text n outer
+Spells text (ScriptLine.Now n) = IsNumbered (codes "now ") text n
 Spells text (ScriptLine.Turn w n) = (w ≡ 1) × IsNumbered (codes "turn 1 ") text n
 Spells text _ = ⊥
 

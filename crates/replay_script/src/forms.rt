@@ -14,7 +14,7 @@ use std::alloc::{AllocError, Global};
 /// The most bytes of a client or of a target in one line.
 const MOST_AT_ONCE: usize = 65_536;
 
-/// The association behind a word.
+/// The number of an association or of seconds behind a word.
 pub fn numbered(alloc: Global, text: &[u8], front: &[u8]) -> Result<Option<u64>, AllocError>
     ensures { IfOk result (λ found. MatchOption found ((n : ℕ) → IsNumbered front.now text.now n → ⊥) (λ n. IsNumbered front.now text.now n)) }
 {
@@ -154,6 +154,9 @@ pub fn line_of(alloc: Global, text: &[u8]) -> Result<Option<ScriptLine>, AllocEr
     }
     if let Some(number) = numbered(alloc, text, b"targetend ")? {
         return Ok(Some(ScriptLine::TargetEnd(number)));
+    }
+    if let Some(seconds) = numbered(alloc, text, b"now ")? {
+        return Ok(Some(ScriptLine::Now(seconds)));
     }
     if let Some((number, outer)) = lookup_line(alloc, text)? {
         return Ok(Some(ScriptLine::Lookup(number, outer)));

@@ -1,7 +1,7 @@
 ghost use Rattle.std.specs.Prelude.{◌≡◌, true, IfOk, MatchOption, None, ◌+◌, ◌<◌, length, ℕ, List as Items};
 ghost use Rattle.addr_pattern.specs.declared.endpoint.Endpoint.{Endpoint as SomeEndpoint};
 ghost use Rattle.socks_machine.specs.declared.world.Outer.{Outer as SomeOuter};
-ghost use Rattle.socks_machine.specs.declared.script.ScriptLine.TheVariants.{UsersAre, Open, Client, Target, ClientEnd, TargetEnd, Dial, Turn, Lookup};
+ghost use Rattle.socks_machine.specs.declared.script.ScriptLine.TheVariants.{UsersAre, Open, Client, Target, ClientEnd, TargetEnd, Dial, Turn, Lookup, Now};
 ghost use Rattle.replay_script.specs.Conditions.{start, fresh_side, side_of, may_give as may_give_of, Allowed, IsServedForm};
 ghost use Rattle.replay_script.specs.Script.{is_looked_at};
 ghost use Rattle.user_login.specs.UsersFile.{are_users};
@@ -37,6 +37,8 @@ pub struct State {
     pub given: bool,
     pub published: bool,
     pub seen: bool,
+    /// In seconds.
+    pub moment: u64,
     /// The associations in their order.
     pub sides: List<Side>,
 }
@@ -64,6 +66,7 @@ impl State {
             given: false,
             published: false,
             seen: false,
+            moment: 0,
             sides: List::make(alloc),
         }
     }
@@ -193,6 +196,16 @@ impl State {
         self.place(number).is_some()
     }
 
+    fn moved(&mut self, now: u64) -> bool
+        ensures { Allowed self.old self.new (Now now) result }
+    {
+        if now < self.moment {
+            return false;
+        }
+        self.moment = now;
+        true
+    }
+
     /// Whether the users may come here.
     fn may_give(&self) -> bool
         ensures { result ≡ may_give_of self.now }
@@ -247,6 +260,7 @@ impl State {
             ScriptLine::TargetEnd(number) => Ok(self.target_end(alloc, *number)),
             ScriptLine::Lookup(number, _) => Ok(self.looked_up(alloc, *number)),
             ScriptLine::Dial(number, _) => Ok(self.dialled(alloc, *number)),
+            ScriptLine::Now(now) => Ok(self.moved(*now)),
             ScriptLine::Turn(_, number) => Ok(self.may_turn(*number)),
             _ => Ok(false),
         }

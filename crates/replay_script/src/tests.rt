@@ -157,6 +157,19 @@ fn the_other_lines(rt: HostRuntime) -> Result<(), Fail> {
         (8, "dial 1 up [::1]\n"),
         (9, "dial 1 refused\ndial 1 up 1.2.3.4:1\n"),
         (9, "dial 1 host\ndial 1 fail\n"),
+        (8, "now\n"),
+        (8, "now \n"),
+        (8, "now  5\n"),
+        (8, "now 5 \n"),
+        (8, "now 05\n"),
+        (8, "now +5\n"),
+        (8, "now -1\n"),
+        (8, "now 5s\n"),
+        (8, "Now 5\n"),
+        (8, "now 18446744073709551616\n"),
+        (9, "now 5\nnow 4\n"),
+        (10, "now 5\nnow 5\nnow 0\n"),
+        (9, "now 18446744073709551615\nnow 18446744073709551614\n"),
     ] {
         let (at, kind) = fault_of(rt.alloc(), RULES, text)?;
         assert_eq!(rt; at, line, "at {text}");
@@ -447,6 +460,27 @@ fn every_outcome(rt: HostRuntime) -> Result<(), Fail> {
             },
         }
     }
+    Ok(())
+}
+
+#[test]
+fn how_the_moment_moves(rt: HostRuntime) -> Result<(), Fail> {
+    let script = format!(in rt.alloc();
+        "{HEAD}now 0\nnow 7\nnow 7\nnow 18446744073709551615\nnow 18446744073709551615"
+    )?;
+    let mut moments = [0, 7, 7, u64::MAX, u64::MAX].iter();
+    match read_script(rt.alloc(), script.as_bytes()) {
+        Err(_) => Err("a moment was refused")?,
+        Ok(lines) => {
+            for line in lines.as_slice() {
+                match line {
+                    ScriptLine::Now(now) => assert_eq!(rt; Some(now), moments.next()),
+                    _ => Err("a line is no moment")?,
+                }
+            }
+        }
+    }
+    assert!(rt; moments.next().is_none());
     Ok(())
 }
 

@@ -6,6 +6,7 @@ mod checks;
 mod decisions;
 mod failures;
 mod logins;
+mod moments;
 mod names;
 mod refusals;
 mod relays;

@@ -161,13 +161,20 @@ const LINES: &[&str] = &[
     "dial 1 hosts\n",
     "dial 1 up [::1]\n",
     "dial 1 up\n",
-    "now 1\n",
+    "now\n",
+    "now 01\n",
+    "now 18446744073709551616\n",
+    "fault 1 client read\n",
 ];
 
 /// Further lines of a script, the last of which comes too early or too late.
 const ORDERS: &[(&[&str], &str)] = &[
     (&[FIRST, "stop\n"], AT_2),
     (&[FIRST, "see 1\n"], AT_2),
+    (
+        &[FIRST, "now 5\nnow 4\n"],
+        "sockd: script line 3: not built\n",
+    ),
     (
         &[FIRST, "#\n\nclient 1 47\n"],
         "sockd: script line 4: not built\n",

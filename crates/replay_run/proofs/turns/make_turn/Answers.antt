@@ -11,7 +11,7 @@ unset (Some by) h = cc
 
 pub returns : goal.returns
 returns c =
-    subst (λ (k : Config). MakesTurn c.args.users.now c.args.snap.now.number k c.args.desk.now c.turn.new.desk c.args.assoc c.args.net.now c.in_ok-next.next c.turn.new.net) c.deref.ensures
+    subst (λ (k : Config). MakesTurn c.args.users.now c.args.snap.now.number k c.args.now c.args.desk.now c.turn.new.desk c.args.assoc c.args.net.now c.in_ok-next.next c.turn.new.net) c.deref.ensures
     (record {
       cap = c.in_ok-next.ensures.cap;
       mark = sym c.mark.ensures ∙ unset c.mark.result (sym c.is_some.ensures ∙ c.if-is_some.false);

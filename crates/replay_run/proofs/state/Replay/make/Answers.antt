@@ -10,7 +10,7 @@ use Rattle.replay_run.proofs.state.Replay.make.Goals as goal
 
 pub returns-in-Ok : goal.returns-in-Ok
 returns-in-Ok c = λ script served opens.
-    subst (λ (z : Generations). IsBehind (users_of script) script [] start (record { desk = c.in-Ok.desk; gens = z; slots = c.make-in-Ok-2.result; out = c.make-in-Ok-3.result })) (sym c.make-in-Ok.ensures)
-    (subst (λ (z : List Slot). IsBehind (users_of script) script [] start (record { desk = c.in-Ok.desk; gens = none_published; slots = z; out = c.make-in-Ok-3.result })) (sym c.make-in-Ok-2.ensures)
-    (subst (λ (z : List ℕ). IsBehind (users_of script) script [] start (record { desk = c.in-Ok.desk; gens = none_published; slots = []; out = z })) (sym c.make-in-Ok-3.ensures)
+    subst (λ (z : Generations). IsBehind (users_of script) script [] start (record { desk = c.in-Ok.desk; gens = z; moment = 0; slots = c.make-in-Ok-2.result; out = c.make-in-Ok-3.result })) (sym c.make-in-Ok.ensures)
+    (subst (λ (z : List Slot). IsBehind (users_of script) script [] start (record { desk = c.in-Ok.desk; gens = none_published; moment = 0; slots = z; out = c.make-in-Ok-3.result })) (sym c.make-in-Ok-2.ensures)
+    (subst (λ (z : List ℕ). IsBehind (users_of script) script [] start (record { desk = c.in-Ok.desk; gens = none_published; moment = 0; slots = []; out = z })) (sym c.make-in-Ok-3.ensures)
     (is-fresh c.in-Ok.desk script c.in-Ok.ensures.stands (c.in-Ok.ensures.cap ∙ opens) served)))
