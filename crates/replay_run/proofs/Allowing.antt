@@ -1,5 +1,6 @@
 -- A turn of the association is one that the script allows.
-use Rattle.std.proofs.Common.{ℕ, ◌≡◌, ◌<◌, ◌≤◌, inl, inr, ◌+◌, ◌∙◌, sym, ap, subst, refl, Bool, true, false, ◌&&◌, Option, Some, None, is_some, List, [], ◌++◌, length, map, arith, length-append}
+use Rattle.std.proofs.Common.{ℕ, ◌≡◌, ◌<◌, ◌≤◌, inl, inr, ◌+◌, ◌∙◌, sym, ap, subst, refl, Bool, true, false, ◌&&◌, Option, Some, None, is_some, List, [], ◌∷◌, ◌++◌, length, map, arith, length-append}
+use Rattle.std.proofs.lemmas.List.Elements.{All-cons}
 use Rattle.std.specs.Prelude.{IfSome, All, Contains, IsTrue}
 use mathlib.Core.List.{IsPrefix}
 use Rattle.addr_pattern.specs.declared.endpoint.Endpoint.{Endpoint}
@@ -42,8 +43,9 @@ use Rattle.assoc_core.specs.declared.assoc.Assoc.{Assoc}
 use Rattle.assoc_core.specs.declared.assoc.Next.{Next}
 use Rattle.assoc_core.specs.Plain.{owed_c, owed_t, prelude_of}
 use Rattle.assoc_core.specs.Stands.{HoldsTarget}
-use Rattle.assoc_core.specs.Turns.{Turns, event_of, links, mark_of, left_of, context, IsOuterOf, IsFull, IsIdle, IsThereAnd, SameTarget, StopsReading, Unread, ReadsEnd, outer_of, IsUnfailing, looked_as}
-use Rattle.replay_run.specs.Mirrors.{IsGoing, TargetMirrors}
+use Rattle.assoc_core.specs.Turns.{Turns, event_of, links, mark_of, left_of, context, IsOuterOf, IsFull, IsIdle, IsThereAnd, SameTarget, StopsReading, Filled, Unread, ReadsEnd, TakesNothing, outer_of, IsUnfailing, looked_as}
+use Rattle.replay_run.specs.Mirrors.{IsGoing, TargetIs, TargetMirrors, takes_nothing}
+use Rattle.replay_run.proofs.Narrowing.{is-nothing, not-nothing}
 use Rattle.replay_run.proofs.Outsides.{same-arrived, same-ends, same-cap, target-behind, owed-c-short, owed-t-short}
 
 -- ---- small facts
@@ -80,13 +82,6 @@ port-unlisted true true h = cc
 port-unlisted true false h = cc
 port-unlisted false true h = cc
 port-unlisted false false h = cc
-
-no-links : (c t : Bool) → c ≡ false → t ≡ false → links c t ≡ []
-no-links c t hc ht = ap (λ b. links b t) hc ∙ ap (links false) ht
-
-not-true : (b : Bool) → (b ≡ true → ⊥) → b ≡ false
-not-true true h = absurd (h refl)
-not-true false h = refl
 
 all-none : {A : Type 0} (P : A → Type 0) → All P []
 all-none P k d h = absurd (omega (arith, h))
@@ -148,39 +143,57 @@ target-bytes k (Some l) h same = prefix-is l.given _ l.arrived _
 reads-arrived-t : (k : Turning) → IsPrefix (k.a.state.t ++ k.turns.acts.t) k.o.t
 reads-arrived-t k = subst (λ (z : List ℕ). IsPrefix z k.o.t) k.turns.t (target-bytes k (left_of k.next).target k.turns.target k.turns.same_target)
 
--- ---- no link is full
+-- ---- a link is full only where it takes nothing
 
-not-full-c : (k : Turning) → k.turns.acts.full_c ≡ false
-not-full-c k = not-true k.turns.acts.full_c (λ h.
+nothing-then : (b : Bool) → (b ≡ false → ⊥) → b ≡ true
+nothing-then true f = refl
+nothing-then false f = absurd (f refl)
+
+full-client : (k : Turning) → k.turns.acts.full_c ≡ true → holds Object.Client k.o.no_room ≡ true
+full-client k h = sym k.going.room ∙ nothing-then (takes_nothing k.a.client.room) (λ some.
     let f = k.turns.full_c h in
-    let cap : (client' k).cap ≤ length (client' k).taken = f.0 (client' k).cap (client' k).taken refl refl in
+    let cap : (client' k).cap ≤ length (client' k).taken = f.0 (λ e. not-nothing k.a.client.room some (sym k.turns.same_client.room ∙ e)) (client' k).cap (client' k).taken refl refl in
     let taken : length (client' k).taken ≡ length (left k).sent_c = ap length (k.turns.client.taken' (client' k).taken refl) in
     let same : (client' k).cap ≡ k.a.client.cap = same-cap k.a.client (client' k) k.turns.same_client in
     let room : 64 + length k.o.t ≤ k.a.client.cap = k.going.cap in
     let owed : length (owed_c (left k)) ≤ 36 + length (left k).t = owed-c-short (left k).c (left k).t (left k).chosen _ (left k).cause in
     let arrived : length (left k).t ≤ length k.o.t = prefix-short (left k).t k.o.t (target-bytes k (left_of k.next).target k.turns.target k.turns.same_target) in
     let below : length (left k).sent_c < length (owed_c (left k)) = f.2 in
-    absurd (omega (arith, cap, taken, same, room, owed, arrived, below)))
+    omega (arith, cap, taken, same, room, owed, arrived, below))
 
 full-target : (k : Turning) (t : Option LinkInMemory) → HoldsTarget told_of_link (left k) t → SameTarget told_of_link (told_of_net k.net) k.a.target t
-    → IsThereAnd t (λ link. IsFull (told_of_link link)) → length (left k).sent_t < length (owed_t (left k)) → ⊥
-full-target k None h same full below = full
-full-target k (Some l) h same full below =
-    let is = target-behind k.a.target k.net k.o l k.going.target same in
-    let cap : l.cap ≤ length l.taken = full l.cap l.taken refl refl in
+    → IsThereAnd t (λ link. IsFull (told_of_link link)) → length (left k).sent_t < length (owed_t (left k)) → holds Object.Target k.o.no_room ≡ true
+full-target k None h same full below = absurd full
+full-target k (Some l) h same full below = sym is.room ∙ nothing-then (takes_nothing l.room) (λ some.
+    let cap : l.cap ≤ length l.taken = full (not-nothing l.room some) l.cap l.taken refl refl in
     let taken : length l.taken ≡ length (left k).sent_t = ap length (h.1.taken' l.taken refl) in
     let room : length k.o.c ≤ l.cap = is.cap in
     let owed : length (owed_t (left k)) ≤ length (left k).c = owed-t-short (prelude_of (left k)) (left k).c _ in
     let all : length (left k).c ≡ length (k.a.state.c ++ k.turns.acts.c) = ap length k.turns.c in
     let arrived : length (k.a.state.c ++ k.turns.acts.c) ≤ length k.o.c = prefix-short _ _ (reads-arrived-c k) in
-    absurd (omega (arith, cap, taken, room, owed, all, arrived, below))
+    omega (arith, cap, taken, room, owed, all, arrived, below))
+  where
+    is : TargetIs l k.o
+    is = target-behind k.a.target k.net k.o l k.going.target same
 
-not-full-t : (k : Turning) → k.turns.acts.full_t ≡ false
-not-full-t k = not-true k.turns.acts.full_t (λ h.
-    let f = k.turns.full_t h in full-target k (left_of k.next).target k.turns.target k.turns.same_target f.0 f.1)
+full-links : (P : Object → Type 0) (c t : Bool) → (c ≡ true → P Object.Client) → (t ≡ true → P Object.Target) → All P (links c t)
+full-links P true true f g = All-cons P Object.Target (Object.Client ∷ []) (g refl) (All-cons P Object.Client [] (f refl) (all-none P))
+full-links P true false f g = All-cons P Object.Client [] (f refl) (all-none P)
+full-links P false true f g = All-cons P Object.Target [] (g refl) (all-none P)
+full-links P false false f g = all-none P
 
-no-full : (k : Turning) → (event k).full ≡ []
-no-full k = no-links k.turns.acts.full_c k.turns.acts.full_t (not-full-c k) (not-full-t k)
+no-room-where-full : (k : Turning) → All (λ x. IsTrue (holds x k.o.no_room)) (event k).full
+no-room-where-full k = full-links (λ x. IsTrue (holds x k.o.no_room)) k.turns.acts.full_c k.turns.acts.full_t (full-client k)
+    (λ h. let f = k.turns.full_t h in full-target k (left_of k.next).target k.turns.target k.turns.same_target f.0 f.1)
+
+-- ---- nothing is sent to a side that takes nothing
+
+takes-none-c : (k : Turning) → holds Object.Client k.o.no_room ≡ true → k.turns.acts.sent_c ≡ 0
+takes-none-c k h = k.turns.room_c (is-nothing k.a.client.room (k.going.room ∙ h))
+
+target-takes-none : (t : Option LinkInMemory) (net : NetInMemory) (o : Outside) → TargetMirrors t net o → holds Object.Target o.no_room ≡ true → TakesNothing told_of_link (told_of_net net) t
+target-takes-none None net o h e = (record { outcome = net.outcome; link = told_of_link net.link }, refl, is-nothing net.link.room (h.0.room ∙ e))
+target-takes-none (Some l) net o h e = is-nothing l.room (h.room ∙ e)
 
 -- ---- no call fails
 
@@ -294,13 +307,13 @@ comes-if-read k arrived had part stands was read Passes reads waiting passes tol
     behind = h.behind;
     taken' = h.taken';
     read' = h.reads';
-    room = λ relays. waits-below k (waiting (basis_of k.w)) (h.room relays (no-fault k).0 (no-full k));
+    room = λ relays. waits-below k (waiting (basis_of k.w)) (h.room relays);
   };
 }
 
 read-if-comes : (k : Turning) (arrived had part : List ℕ) (stands was read idle : Bool) (Passes : Type 0) (reads : Record → Phase → Bool) (waiting : Basis → Record → ℕ)
     → (idle ≡ true → (had ++ part ≡ arrived) × (stands ≡ false))
-    → StopsReading was read idle part k.turns.acts.fault (Unread (made-over k) k.a.state (event k) reads)
+    → StopsReading was read idle part k.turns.acts.fault (Filled (made-over k) k.a.state (left k) (event k) waiting) (Unread (made-over k) k.a.state (event k) reads)
     → Comes k arrived had part stands was Passes reads waiting → read ≡ true
 read-if-comes k arrived had part stands was read idle Passes reads waiting rests (StopsReading.ended h) c = not-both was h c.unread
 read-if-comes k arrived had part stands was read idle Passes reads waiting rests (StopsReading.ends' h) c = h
@@ -308,6 +321,11 @@ read-if-comes k arrived had part stands was read idle Passes reads waiting rests
 read-if-comes k arrived had part stands was read idle Passes reads waiting rests (StopsReading.took h) c = absurd (omega (arith, h, c.below))
 read-if-comes k arrived had part stands was read idle Passes reads waiting rests (StopsReading.failed h) c =
     not-both (is_some k.turns.acts.fault) h (ap (λ (x : Option Object). is_some x) (no-fault k).0)
+read-if-comes k arrived had part stands was read idle Passes reads waiting rests (StopsReading.held h) c =
+    let same : c.reads.behind ≡ h.behind = same-behind c.reads.behind h.behind (sym c.reads.taken' ∙ h.taken') in
+    let below : waiting (basis_of k.w) (left k) < pipe_size = subst (λ (x : Option Record). IfSome x (λ x. waiting (basis_of k.w) x < pipe_size)) (left-behind k)
+    (c.reads.room (ap (λ (x : Record). phase (basis_of k.w) x) same ∙ h.relays)) in
+    absurd (omega (arith, below, h.waits))
 read-if-comes k arrived had part stands was read idle Passes reads waiting rests (StopsReading.unread h) c =
     not-both (reads c.reads.behind (phase (basis_of k.w) c.reads.behind)) c.reads.read'
     (ap (λ (x : Record). reads x (phase (basis_of k.w) x)) (same-behind c.reads.behind h.behind (sym c.reads.taken' ∙ h.taken')) ∙ h.unread')
@@ -387,9 +405,9 @@ allows k = record {
   target_rests = λ h. target-rest-told k (target-listed k.turns.acts.idle_c k.turns.acts.idle_t h);
   door_rests = λ h. absurd (door-unlisted k.turns.acts.idle_c k.turns.acts.idle_t h);
   port_rests = λ h. absurd (port-unlisted k.turns.acts.idle_c k.turns.acts.idle_t h);
-  no_room = subst (λ (z : List Object). All (λ x. IsTrue (holds x k.o.no_room)) z) (sym (no-full k)) (all-none (λ x. IsTrue (holds x k.o.no_room)));
-  room_c = λ h. not-both (holds Object.Client k.o.no_room) h (ap (holds Object.Client) k.going.quiet.no_room);
-  room_t = λ h. not-both (holds Object.Target k.o.no_room) h (ap (holds Object.Target) k.going.quiet.no_room);
+  no_room = no-room-where-full k;
+  room_c = takes-none-c k;
+  room_t = λ h. k.turns.room_t (target-takes-none k.a.target k.net k.o k.going.target h);
 }
   where
     grams : IsPrefix (map packet (k.a.state.grams ++ [])) k.o.grams

@@ -12,9 +12,10 @@ use Rattle.net_ends.specs.Told.{Told, Arrival}
 use Rattle.session_desk.specs.Standings.{StandsFor}
 use Rattle.socks_machine.specs.declared.record.Record.{Record}
 use Rattle.socks_machine.specs.declared.script.ScriptLine.{ScriptLine}
+use Rattle.socks_machine.specs.declared.world.Object.{Object}
 use Rattle.socks_machine.specs.declared.world.Outer.{Outer}
 use Rattle.socks_machine.specs.declared.world.World.{World}
-use Rattle.socks_machine.specs.Script.{Outside, Surroundings, change, change_at, is_silent, outside_after}
+use Rattle.socks_machine.specs.Script.{Outside, Surroundings, change, change_at, is_silent, outside_after, room_for}
 use Rattle.socks_machine.specs.Basis.{Basis}
 use Rattle.socks_machine.specs.Inputs.{is_served_input}
 use Rattle.socks_machine.specs.Step.{basis_of}
@@ -23,13 +24,14 @@ use Rattle.assoc_core.specs.Stands.{Holds, HoldsTarget, EndsBehind, GivesFirst}
 use Rattle.assoc_core.specs.Turns.{looked_as, outer_of}
 use Rattle.replay_script.specs.declared.state.Side.{Side}
 use Rattle.replay_script.specs.declared.state.State.{State}
-use Rattle.replay_script.specs.Conditions.{after, change_side, may_send, on_side, side_of, with_side}
+use Rattle.replay_script.specs.Conditions.{IsServedRoom, after, change_side, may_send, on_side, side_of, with_side}
 use Rattle.replay_run.specs.declared.slot.Slot.{Slot}
 use Rattle.replay_run.specs.declared.state.Replay.{Replay}
 use Rattle.replay_run.specs.Behind.{IsBehind, IsDue}
-use Rattle.replay_run.specs.Changes.{IsUnended, MayArrive, MayArriveAtTarget, change_net, change_target, with_arrival, with_bytes, with_client_end, with_end, with_found, with_lookup, with_outcome, with_plan, with_room, with_target_arrival, with_target_end}
+use Rattle.replay_run.specs.Changes.{IsUnended, MayArrive, MayArriveAtTarget, change_net, change_target, with_arrival, with_bytes, with_client_end, with_client_narrow, with_end, with_found, with_lookup, with_narrow, with_outcome, with_plan, with_room, with_side_narrow, with_target_arrival, with_target_end, with_target_narrow}
 use Rattle.replay_run.specs.Mirrors.{HasUsers, IsGoing, IsSlot, Matches, Mirrors, TargetIs, TargetMirrors, record_of}
 use Rattle.replay_run.specs.Played.{Played}
+use Rattle.replay_run.proofs.Narrowing.{client-room, client-unnarrowed, target-room-is, target-unnarrowed}
 use Rattle.replay_run.proofs.Places.{IsPlace, IsSide, placed, place-within, side-open, sides-set}
 use Rattle.replay_run.proofs.Playing.{plays-silent}
 use Rattle.replay_run.proofs.Slots.{get-map-at, map-set-at, set-same, set-set, slots-set}
@@ -79,6 +81,7 @@ is-room bytes link o h = record {
   ends = h.ends;
   unfailing = h.unfailing;
   cap = let e = length-append o.c bytes in let k = h.cap in omega arith;
+  room = h.room;
 }
 
 mirrors-room : (bytes : List ℕ) (t : Option LinkInMemory) (net : NetInMemory) (o : Outside) → TargetMirrors t net o
@@ -106,15 +109,16 @@ going-arrives basis number bytes a net o h unended served = record {
   ends = h.ends;
   unfailing = h.unfailing;
   cap = h.cap;
+  room = h.room;
   served = served;
   target = mirrors-room bytes a.target net o h.target;
   lookup = ap looked_as (same-lookup (with_room (length bytes)) a.target net) ∙ h.lookup;
-  quiet = record { grams = h.quiet.grams; peer = h.quiet.peer; no_room = h.quiet.no_room; faults = h.quiet.faults };
+  quiet = record { grams = h.quiet.grams; peer = h.quiet.peer; faults = h.quiet.faults };
 }
 
 -- bytes of the target, with room for them at the client
 is-more : (bytes : List ℕ) (link : LinkInMemory) (o : Outside) → TargetIs link o → TargetIs (with_bytes bytes link) (record o { t = o.t ++ bytes })
-is-more bytes link o h = record { arrived = ap (λ z. z ++ bytes) h.arrived; ends = h.ends; unfailing = h.unfailing; cap = h.cap }
+is-more bytes link o h = record { arrived = ap (λ z. z ++ bytes) h.arrived; ends = h.ends; unfailing = h.unfailing; cap = h.cap; room = h.room }
 
 mirrors-more : (bytes : List ℕ) (t : Option LinkInMemory) (net : NetInMemory) (o : Outside) → TargetMirrors t net o
     → TargetMirrors (change_target (with_bytes bytes) t) (change_net (with_bytes bytes) t net) (record o { t = o.t ++ bytes })
@@ -147,16 +151,17 @@ going-target-arrives basis number bytes a net o h unended = record {
   ends = h.ends;
   unfailing = h.unfailing;
   cap = let e = length-append o.t bytes in let k = h.cap in omega arith;
+  room = h.room;
   served = h.served;
   target = mirrors-more bytes a.target net o h.target;
   lookup = ap looked_as (same-lookup (with_bytes bytes) a.target net) ∙ h.lookup;
-  quiet = record { grams = h.quiet.grams; peer = h.quiet.peer; no_room = h.quiet.no_room; faults = h.quiet.faults };
+  quiet = record { grams = h.quiet.grams; peer = h.quiet.peer; faults = h.quiet.faults };
 }
 
 -- the client's end
 mirrors-closed : (t : Option LinkInMemory) (net : NetInMemory) (o : Outside) → TargetMirrors t net o → TargetMirrors t net (record o { end_c = true })
-mirrors-closed None net o h = (record { arrived = h.0.arrived; ends = h.0.ends; unfailing = h.0.unfailing; cap = h.0.cap }, h.1)
-mirrors-closed (Some link) net o h = record { arrived = h.arrived; ends = h.ends; unfailing = h.unfailing; cap = h.cap }
+mirrors-closed None net o h = (record { arrived = h.0.arrived; ends = h.0.ends; unfailing = h.0.unfailing; cap = h.0.cap; room = h.0.room }, h.1)
+mirrors-closed (Some link) net o h = record { arrived = h.arrived; ends = h.ends; unfailing = h.unfailing; cap = h.cap; room = h.room }
 
 going-ends : (basis : Basis) (number : ℕ) (a : Assoc LinkInMemory) (net : NetInMemory) (o : Outside) → IsGoing basis number a net o → o.end_c ≡ false
     → IsSlot basis number (with_client_end (Slot.Going a net)) (record o { end_c = true })
@@ -174,15 +179,16 @@ going-ends basis number a net o h unended = record {
   ends = refl;
   unfailing = h.unfailing;
   cap = h.cap;
+  room = h.room;
   served = h.served;
   target = mirrors-closed a.target net o h.target;
   lookup = h.lookup;
-  quiet = record { grams = h.quiet.grams; peer = h.quiet.peer; no_room = h.quiet.no_room; faults = h.quiet.faults };
+  quiet = record { grams = h.quiet.grams; peer = h.quiet.peer; faults = h.quiet.faults };
 }
 
 -- the target's end
 is-end : (link : LinkInMemory) (o : Outside) → TargetIs link o → TargetIs (with_end link) (record o { end_t = true })
-is-end link o h = record { arrived = h.arrived; ends = refl; unfailing = h.unfailing; cap = h.cap }
+is-end link o h = record { arrived = h.arrived; ends = refl; unfailing = h.unfailing; cap = h.cap; room = h.room }
 
 mirrors-end : (t : Option LinkInMemory) (net : NetInMemory) (o : Outside) → TargetMirrors t net o
     → TargetMirrors (change_target with_end t) (change_net with_end t net) (record o { end_t = true })
@@ -215,15 +221,85 @@ going-target-ends basis number a net o h unended = record {
   ends = h.ends;
   unfailing = h.unfailing;
   cap = h.cap;
+  room = h.room;
   served = h.served;
   target = mirrors-end a.target net o h.target;
   lookup = ap looked_as (same-lookup with_end a.target net) ∙ h.lookup;
-  quiet = record { grams = h.quiet.grams; peer = h.quiet.peer; no_room = h.quiet.no_room; faults = h.quiet.faults };
+  quiet = record { grams = h.quiet.grams; peer = h.quiet.peer; faults = h.quiet.faults };
 }
+
+-- how many bytes a write to a side takes at most
+holds-narrow : (n : ℕ) (l : LinkInMemory) (c sent : List ℕ) (ended shut : Bool) → Holds (told_of_link l) c sent ended shut → Holds (told_of_link (with_narrow n l)) c sent ended shut
+holds-narrow n l c sent ended shut h = record { given' = h.given'; taken' = h.taken'; ended' = h.ended'; shut' = h.shut' }
+
+going-client-narrow : (basis : Basis) (number n : ℕ) (a : Assoc LinkInMemory) (net : NetInMemory) (o : Outside) → IsGoing basis number a net o
+    → IsSlot basis number (with_client_narrow n (Slot.Going a net)) (record o { no_room = room_for Object.Client n o.no_room })
+going-client-narrow basis number n a net o h = record {
+  number' = h.number';
+  stands = record {
+    plain = h.stands.plain;
+    direct = h.stands.direct;
+    client = holds-narrow n a.client a.state.c a.state.sent_c a.state.end_c a.state.shut_c h.stands.client;
+    client_ends = h.stands.client_ends;
+    client_first = h.stands.client_first;
+    target = h.stands.target;
+  };
+  arrived = h.arrived;
+  ends = h.ends;
+  unfailing = h.unfailing;
+  cap = h.cap;
+  room = client-room n o.no_room;
+  served = h.served;
+  target = mirrors-other a.target net h.target;
+  lookup = h.lookup;
+  quiet = record { grams = h.quiet.grams; peer = h.quiet.peer; faults = h.quiet.faults };
+}
+  where
+    is-other : (link : LinkInMemory) → TargetIs link o → TargetIs link (record o { no_room = room_for Object.Client n o.no_room })
+    is-other link k = record { arrived = k.arrived; ends = k.ends; unfailing = k.unfailing; cap = k.cap; room = k.room ∙ sym (target-unnarrowed n o.no_room) }
+
+    mirrors-other : (t : Option LinkInMemory) (net : NetInMemory) → TargetMirrors t net o → TargetMirrors t net (record o { no_room = room_for Object.Client n o.no_room })
+    mirrors-other None net k = (is-other net.link k.0, k.1)
+    mirrors-other (Some link) net k = is-other link k
+
+target-narrow : (n : ℕ) (r : Record) (t : Option LinkInMemory) → HoldsTarget told_of_link r t → HoldsTarget told_of_link r (change_target (with_narrow n) t)
+target-narrow n r None h = h
+target-narrow n r (Some link) h = (h.0, holds-narrow n link r.t r.sent_t r.end_t r.shut_t h.1, h.2, h.3)
+
+going-target-narrow : (basis : Basis) (number n : ℕ) (a : Assoc LinkInMemory) (net : NetInMemory) (o : Outside) → IsGoing basis number a net o
+    → IsSlot basis number (with_target_narrow n (Slot.Going a net)) (record o { no_room = room_for Object.Target n o.no_room })
+going-target-narrow basis number n a net o h = record {
+  number' = h.number';
+  stands = record {
+    plain = h.stands.plain;
+    direct = h.stands.direct;
+    client = h.stands.client;
+    client_ends = h.stands.client_ends;
+    client_first = h.stands.client_first;
+    target = target-narrow n a.state a.target h.stands.target;
+  };
+  arrived = h.arrived;
+  ends = h.ends;
+  unfailing = h.unfailing;
+  cap = h.cap;
+  room = h.room ∙ sym (client-unnarrowed n o.no_room);
+  served = h.served;
+  target = mirrors-narrow a.target net h.target;
+  lookup = ap looked_as (same-lookup (with_narrow n) a.target net) ∙ h.lookup;
+  quiet = record { grams = h.quiet.grams; peer = h.quiet.peer; faults = h.quiet.faults };
+}
+  where
+    is-narrow : (link : LinkInMemory) → TargetIs link o → TargetIs (with_narrow n link) (record o { no_room = room_for Object.Target n o.no_room })
+    is-narrow link k = record { arrived = k.arrived; ends = k.ends; unfailing = k.unfailing; cap = k.cap; room = target-room-is n o.no_room }
+
+    mirrors-narrow : (t : Option LinkInMemory) (net : NetInMemory) → TargetMirrors t net o
+        → TargetMirrors (change_target (with_narrow n) t) (change_net (with_narrow n) t net) (record o { no_room = room_for Object.Target n o.no_room })
+    mirrors-narrow None net k = (is-narrow net.link k.0, k.1)
+    mirrors-narrow (Some link) net k = is-narrow link k
 
 -- how a lookup comes out
 is-found : (link : LinkInMemory) (o : Outside) (outer : Outer) → TargetIs link o → TargetIs link (record o { lookup = outer })
-is-found link o outer h = record { arrived = h.arrived; ends = h.ends; unfailing = h.unfailing; cap = h.cap }
+is-found link o outer h = record { arrived = h.arrived; ends = h.ends; unfailing = h.unfailing; cap = h.cap; room = h.room }
 
 mirrors-found : (outcome : Lookup) (outer : Outer) (t : Option LinkInMemory) (net : NetInMemory) (o : Outside) → TargetMirrors t net o → TargetMirrors t (with_found outcome net) (record o { lookup = outer })
 mirrors-found outcome outer None net o h = (is-found net.link o outer h.0, h.1)
@@ -238,15 +314,16 @@ going-looked basis number outcome outer a net o same h = record {
   ends = h.ends;
   unfailing = h.unfailing;
   cap = h.cap;
+  room = h.room;
   served = h.served;
   target = mirrors-found outcome outer a.target net o h.target;
   lookup = same;
-  quiet = record { grams = h.quiet.grams; peer = h.quiet.peer; no_room = h.quiet.no_room; faults = h.quiet.faults };
+  quiet = record { grams = h.quiet.grams; peer = h.quiet.peer; faults = h.quiet.faults };
 }
 
 -- how the next dial comes out
 is-plan : (link : LinkInMemory) (o : Outside) (outer : Outer) → TargetIs link o → TargetIs link (record o { dial = outer })
-is-plan link o outer h = record { arrived = h.arrived; ends = h.ends; unfailing = h.unfailing; cap = h.cap }
+is-plan link o outer h = record { arrived = h.arrived; ends = h.ends; unfailing = h.unfailing; cap = h.cap; room = h.room }
 
 mirrors-plan : (outcome : DialOutcome) (outer : Outer) (t : Option LinkInMemory) (net : NetInMemory) (o : Outside) → outer_of outcome ≡ outer → TargetMirrors t net o
     → TargetMirrors t (with_outcome outcome net) (record o { dial = outer })
@@ -262,10 +339,11 @@ going-planned basis number outcome outer a net o same h = record {
   ends = h.ends;
   unfailing = h.unfailing;
   cap = h.cap;
+  room = h.room;
   served = h.served;
   target = mirrors-plan outcome outer a.target net o same h.target;
   lookup = h.lookup;
-  quiet = record { grams = h.quiet.grams; peer = h.quiet.peer; no_room = h.quiet.no_room; faults = h.quiet.faults };
+  quiet = record { grams = h.quiet.grams; peer = h.quiet.peer; faults = h.quiet.faults };
 }
 
 -- ---- the place of a line's association
@@ -465,6 +543,38 @@ target-end-changes basis number = record {
     by-record (Slot.Going a net) = refl
     by-record (Slot.Over e) = refl
     by-record Slot.Away = refl
+
+pub room-changes : (basis : Basis) (number : ℕ) (side : Object) (most : ℕ) → IsServedRoom side
+    → Changes basis (ScriptLine.Room number side most) number (λ x. true) (λ o. record o { no_room = room_for side most o.no_room }) (λ x. x) (with_side_narrow side most)
+room-changes basis number side most linked = record {
+  silent = λ w. refl;
+  outside' = λ s. refl;
+  state' = λ state. unchanged state number;
+  is = λ x o i. i;
+  stands = by-side side linked;
+  record' = by-record side;
+}
+  where
+    by-side : (side : Object) → IsServedRoom side → (n : ℕ) (x : Side) (o : Outside) (y : Slot) → IsSide x o → true ≡ true → IsSlot basis n y o
+        → IsSlot basis n (with_side_narrow side most y) (record o { no_room = room_for side most o.no_room })
+    by-side Object.Client l n x o (Slot.Going a net) i t h = going-client-narrow basis n most a net o h
+    by-side Object.Client l n x o (Slot.Over e) i t h = h
+    by-side Object.Client l n x o Slot.Away i t h = absurd h
+    by-side Object.Target l n x o (Slot.Going a net) i t h = going-target-narrow basis n most a net o h
+    by-side Object.Target l n x o (Slot.Over e) i t h = h
+    by-side Object.Target l n x o Slot.Away i t h = absurd h
+    by-side Object.Door l n x o y i t h = absurd l
+    by-side Object.Port l n x o y i t h = absurd l
+
+    by-record : (side : Object) (y : Slot) → record_of (with_side_narrow side most y) ≡ record_of y
+    by-record Object.Client (Slot.Going a net) = refl
+    by-record Object.Client (Slot.Over e) = refl
+    by-record Object.Client Slot.Away = refl
+    by-record Object.Target (Slot.Going a net) = refl
+    by-record Object.Target (Slot.Over e) = refl
+    by-record Object.Target Slot.Away = refl
+    by-record Object.Door y = refl
+    by-record Object.Port y = refl
 
 pub lookup-changes : (basis : Basis) (number : ℕ) (outer : Outer) (outcome : Lookup) → looked_as outcome ≡ outer
     → Changes basis (ScriptLine.Lookup number outer) number (λ x. not x.looked) (λ o. record o { lookup = outer }) (λ x. record x { looked = true }) (with_lookup outcome)

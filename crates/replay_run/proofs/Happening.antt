@@ -104,6 +104,7 @@ slots-later users pubs k number (slot ∷ slots) (o ∷ os) h = (slot-later numb
       ends = h.ends;
       unfailing = h.unfailing;
       cap = h.cap;
+      room = h.room;
       served = h.served;
       target = h.target;
       lookup = h.lookup;
@@ -268,10 +269,11 @@ opened-is basis number peer local now = record {
   ends = refl;
   unfailing = refl;
   cap = omega arith;
+  room = refl;
   served = refl;
-  target = (record { arrived = refl; ends = refl; unfailing = refl; cap = omega arith }, refl);
+  target = (record { arrived = refl; ends = refl; unfailing = refl; cap = omega arith; room = refl }, refl);
   lookup = refl;
-  quiet = record { grams = refl; peer = refl; no_room = refl; faults = refl };
+  quiet = record { grams = refl; peer = refl; faults = refl };
 }
 
 open-step : (w : World) (seen : ℕ) (number : ℕ) (peer local : Endpoint) (now : ℕ) → w.seen ≡ seen_by_workers seen → (number == length w.records + 1) ≡ true

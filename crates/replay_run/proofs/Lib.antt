@@ -6,6 +6,7 @@ pub mod Ending
 pub mod Foreseeing
 pub mod Forms
 pub mod Happening
+pub mod Narrowing
 pub mod Outsides
 pub mod Places
 pub mod Playing

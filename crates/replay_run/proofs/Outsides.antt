@@ -16,7 +16,7 @@ use Rattle.socks_machine.specs.Socks.{chosen_reply, passed_reply, success}
 use Rattle.socks_machine.specs.Script.{Outside}
 use Rattle.assoc_core.specs.Plain.{has_passed, opening_owed, plain_to_client, plain_to_target, refused_at, success_reply, payload_to_client, refusal_owed}
 use Rattle.assoc_core.specs.Turns.{SameOutside, SameTarget}
-use Rattle.replay_run.specs.Mirrors.{TargetIs, TargetMirrors}
+use Rattle.replay_run.specs.Mirrors.{TargetIs, TargetMirrors, takes_nothing}
 
 -- ---- what stays the same
 
@@ -47,6 +47,7 @@ same-target-is l l' o h k = record {
   ends = same-ends l l' k ∙ h.ends;
   unfailing = k.unfailing ∙ h.unfailing;
   cap = subst (λ (n : ℕ). length o.c ≤ n) (sym (same-cap l l' k)) h.cap;
+  room = ap takes_nothing k.room ∙ h.room;
 }
 
 -- the target's link behind a turn

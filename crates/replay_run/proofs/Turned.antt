@@ -32,7 +32,7 @@ use Rattle.assoc_core.specs.Plain.{IsPlainRecord}
 use Rattle.assoc_core.specs.Stands.{GoesDirect, Holds, HoldsTarget}
 use Rattle.net_ends.specs.declared.net.Lookup.{Lookup}
 use Rattle.assoc_core.specs.Turns.{PlanStays, SameTarget, looked_as, outer_of}
-use Rattle.replay_run.specs.Mirrors.{Mirrors, AreSlots, IsGoing, IsSlot, TargetIs, TargetMirrors, record_of, seen_by_workers}
+use Rattle.replay_run.specs.Mirrors.{Mirrors, AreSlots, IsGoing, IsSlot, TargetIs, TargetMirrors, record_of, seen_by_workers, takes_nothing}
 use Rattle.replay_run.specs.Taken.{slot_of}
 use Rattle.replay_run.proofs.Outsides.{same-arrived, same-ends, same-cap, same-target-is, target-behind}
 use Rattle.socks_machine.specs.Follows.{IsTurnOf, used_up}
@@ -73,6 +73,7 @@ plan-same net net' o h same = (
   same-target-is net.link net'.link o h.0 (record {
     arrived = ap (λ (p : Option Plan). elim p [ Some x ↦ x.link.arrived | None ↦ None ]) same;
     cap = ap (λ (p : Option Plan). elim p [ Some x ↦ x.link.cap | None ↦ None ]) same;
+    room = ap (λ (p : Option Plan). elim p [ Some x ↦ x.link.room | None ↦ None ]) same;
     unfailing = ap (λ (p : Option Plan). elim p [ Some x ↦ x.link.unfailing | None ↦ false ]) same;
   }),
   ap (λ (p : Option Plan). elim p [ Some x ↦ outer_of x.outcome | None ↦ o.dial ]) same ∙ h.1,
@@ -114,6 +115,7 @@ still-going basis n a a' net net' o next s stands' now h over t is plain = subst
   ends = same-ends a.client (left_of next).client t.same_client ∙ h.ends;
   unfailing = t.same_client.unfailing ∙ h.unfailing;
   cap = subst (λ (m : ℕ). 64 + length o.t ≤ m) (sym (same-cap a.client (left_of next).client t.same_client)) h.cap;
+  room = ap takes_nothing t.same_client.room ∙ h.room;
   served = h.served;
   target = target-still a.target (left_of next).target net net' o t.result.left t.acts.outer h.target t.same_target t.target t.plan';
   lookup = ap (λ (p : Option Lookup). elim p [ Some x ↦ looked_as x | None ↦ o.lookup ]) t.lookup_plan ∙ h.lookup;

@@ -4,6 +4,7 @@ use Rattle.addr_pattern.specs.declared.endpoint.Endpoint.{Endpoint}
 use Rattle.net_ends.specs.InMemory.{LinkInMemory, NetInMemory, fresh_link, fresh_net}
 use Rattle.net_ends.specs.declared.net.Lookup.{Lookup}
 use Rattle.net_ends.specs.Nets.{DialOutcome}
+use Rattle.socks_machine.specs.declared.world.Object.{Object}
 use Rattle.socks_machine.specs.Step.{fresh}
 use Rattle.replay_run.specs.declared.slot.Slot.{Slot}
 
@@ -24,6 +25,9 @@ with_bytes bytes link = record link { arrived = link.arrived ++ bytes }
 
 abbrev pub with_end : LinkInMemory → LinkInMemory
 with_end link = record link { ends = true }
+
+abbrev pub with_narrow : ℕ → LinkInMemory → LinkInMemory
+with_narrow n link = record link { room = Some n }
 
 abbrev pub with_found : Lookup → NetInMemory → NetInMemory
 with_found outcome net = record net { lookup = outcome }
@@ -50,6 +54,20 @@ with_client_end slot = slot
 abbrev pub with_target_end : Slot → Slot
 with_target_end (Slot.Going a net) = Slot.Going (record a { target = change_target with_end a.target }) (change_net with_end a.target net)
 with_target_end slot = slot
+
+-- each write to a side takes so many bytes at most
+abbrev pub with_client_narrow : ℕ → Slot → Slot
+with_client_narrow n (Slot.Going a net) = Slot.Going (record a { client = with_narrow n a.client }) net
+with_client_narrow n slot = slot
+
+abbrev pub with_target_narrow : ℕ → Slot → Slot
+with_target_narrow n (Slot.Going a net) = Slot.Going (record a { target = change_target (with_narrow n) a.target }) (change_net (with_narrow n) a.target net)
+with_target_narrow n slot = slot
+
+abbrev pub with_side_narrow : Object → ℕ → Slot → Slot
+with_side_narrow Object.Client n slot = with_client_narrow n slot
+with_side_narrow Object.Target n slot = with_target_narrow n slot
+with_side_narrow _ n slot = slot
 
 abbrev pub with_plan : DialOutcome → Slot → Slot
 with_plan outcome (Slot.Going a net) = Slot.Going a (with_outcome outcome net)

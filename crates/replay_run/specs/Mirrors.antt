@@ -1,5 +1,5 @@
 -- What a replay holds, beside the world and the outside of its script.
-use Rattle.std.specs.Prelude.{ℕ, suc, ◌≡◌, ◌<◌, ◌≤◌, ◌+◌, true, false, Option, Some, None, List, [], ◌∷◌, length, map, All}
+use Rattle.std.specs.Prelude.{ℕ, zero, suc, ◌≡◌, ◌<◌, ◌≤◌, ◌+◌, Bool, true, false, Option, Some, None, List, [], ◌∷◌, length, map, All}
 use Rattle.addr_pattern.specs.declared.addr.Addr.{Addr}
 use Rattle.addr_pattern.specs.declared.endpoint.Endpoint.{Endpoint}
 use Rattle.conf_model.specs.declared.config.Config.{Config}
@@ -11,6 +11,7 @@ use Rattle.net_ends.specs.InMemory.{LinkInMemory, NetInMemory, told_of_link}
 use Rattle.socks_machine.specs.declared.cause.StopBy.{StopBy}
 use Rattle.socks_machine.specs.declared.lines.Line.{Line}
 use Rattle.socks_machine.specs.declared.record.Record.{Record}
+use Rattle.socks_machine.specs.declared.world.Object.{Object}
 use Rattle.socks_machine.specs.declared.world.World.{World}
 use Rattle.socks_machine.specs.Basis.{Basis}
 use Rattle.socks_machine.specs.History.{last_mark}
@@ -18,6 +19,7 @@ use Rattle.socks_machine.specs.Inputs.{is_served_input}
 use Rattle.socks_machine.specs.Phase.{is_udp}
 use Rattle.socks_machine.specs.Script.{Outside, Surroundings}
 use Rattle.socks_machine.specs.Step.{basis_of, fresh}
+use Rattle.socks_machine.specs.Taking.{holds}
 use Rattle.assoc_core.specs.declared.assoc.Assoc.{Assoc}
 use Rattle.assoc_core.specs.Stands.{Stands}
 use Rattle.assoc_core.specs.Turns.{looked_as, outer_of}
@@ -31,22 +33,30 @@ use Rattle.replay_script.specs.declared.state.State.{State}
 pub record Quiet (o : Outside) : Type 0 where
   pub grams : o.grams ≡ []
   pub peer : o.peer ≡ None
-  pub no_room : o.no_room ≡ []
   pub faults : o.faults ≡ []
 
--- a link of the target, at which arrived what the script says, with room for all that the client sends
+-- whether a write that takes so many bytes at most takes nothing
+abbrev pub takes_nothing : Option ℕ → Bool
+takes_nothing None = false
+takes_nothing (Some zero) = true
+takes_nothing (Some (suc n)) = false
+
+-- a link of the target, at which arrived what the script says, with room for all that the client sends, and whose writes take
+-- nothing where the script says so
 pub record TargetIs (link : LinkInMemory) (o : Outside) : Type 0 where
   pub arrived : link.arrived ≡ o.t
   pub ends : link.ends ≡ o.end_t
   pub unfailing : link.unfailing ≡ true
   pub cap : length o.c ≤ link.cap
+  pub room : takes_nothing link.room ≡ holds Object.Target o.no_room
 
 -- the target's link is there, or waits for the dial, which comes out as the script says
 abbrev pub TargetMirrors : Option LinkInMemory → NetInMemory → Outside → Type 0
 TargetMirrors None net o = TargetIs net.link o × (outer_of net.outcome ≡ o.dial)
 TargetMirrors (Some link) net o = TargetIs link o
 
--- the client's link has room for all replies and for all that arrives from the target, and a lookup comes out as the script says
+-- the client's link has room for all replies and for all that arrives from the target, and its writes take nothing where the
+-- script says so; a lookup comes out as the script says
 pub record IsGoing (basis : Basis) (number : ℕ) (a : Assoc LinkInMemory) (net : NetInMemory) (o : Outside) : Type 0 where
   pub number' : a.state.number ≡ number
   pub stands : Stands told_of_link basis a
@@ -54,6 +64,7 @@ pub record IsGoing (basis : Basis) (number : ℕ) (a : Assoc LinkInMemory) (net 
   pub ends : a.client.ends ≡ o.end_c
   pub unfailing : a.client.unfailing ≡ true
   pub cap : 64 + length o.t ≤ a.client.cap
+  pub room : takes_nothing a.client.room ≡ holds Object.Client o.no_room
   pub served : is_served_input basis.users o.c ≡ true
   pub target : TargetMirrors a.target net o
   pub lookup : looked_as net.lookup ≡ o.lookup

@@ -1,7 +1,7 @@
 ghost use Rattle.std.specs.Prelude.{◌≡◌, IfOk, List as Items};
 ghost use Rattle.conf_model.specs.declared.user.User.{User as SomeUser};
 ghost use Rattle.net_ends.specs.Plans.{planned};
-ghost use Rattle.socks_machine.specs.declared.script.ScriptLine.TheVariants.{Client, Target, ClientEnd, TargetEnd, Lookup as LookupLine, Dial};
+ghost use Rattle.socks_machine.specs.declared.script.ScriptLine.TheVariants.{Client, Target, ClientEnd, TargetEnd, Room, Lookup as LookupLine, Dial};
 ghost use Rattle.replay_script.specs.Conditions.{IsServedLookup, IsServedOutcome};
 ghost use Rattle.assoc_core.specs.Turns.{looked_as, outer_of};
 ghost use Rattle.replay_run.specs.Behind.{GoesBehind, IsDue};
@@ -9,7 +9,7 @@ ghost use Rattle.replay_run.specs.Behind.{GoesBehind, IsDue};
 use crate::slot::Slot;
 use crate::state::Replay;
 use net_ends::{DialPlan, Lookup};
-use socks_machine::Outer;
+use socks_machine::{Object, Outer};
 use std::alloc::AllocError;
 
 /// The plan of a dial that is to come out so.
@@ -80,6 +80,17 @@ impl Replay {
         let at = (number - 1) as usize;
         let mut slot = self.slots.replace(at, Slot::Away);
         slot.end_target();
+        self.slots.set(at, slot);
+    }
+
+    /// The line `room`.
+    pub fn room(&mut self, number: u64, side: Object, most: u64)
+        requires due { IsDue (Room number side most) self.old }
+        ensures { (users : Items SomeUser) → GoesBehind users (Room number side most) self.old self.new }
+    {
+        let at = (number - 1) as usize;
+        let mut slot = self.slots.replace(at, Slot::Away);
+        slot.narrow(side, most as usize);
         self.slots.set(at, slot);
     }
 

@@ -85,6 +85,7 @@ impl Replay {
             ScriptLine::Target(number, bytes) => self.target(*number, bytes.as_slice())?,
             ScriptLine::ClientEnd(number) => self.client_end(*number),
             ScriptLine::TargetEnd(number) => self.target_end(*number),
+            ScriptLine::Room(number, side, most) => self.room(*number, *side, *most),
             ScriptLine::Lookup(number, outer) => self.lookup(*number, *outer),
             ScriptLine::Dial(number, outer) => self.dial(*number, *outer),
             ScriptLine::Now(now) => self.now(*now),

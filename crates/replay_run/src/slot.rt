@@ -1,9 +1,10 @@
 ghost use Rattle.std.specs.Prelude.{◌≡◌, IfOk};
 ghost use Rattle.net_ends.specs.Plans.{planned};
-ghost use Rattle.replay_run.specs.Changes.{IsUnended, MayArrive, MayArriveAtTarget, change_net, change_target, with_arrival, with_bytes, with_client_end, with_lookup, with_plan, with_room, with_target_arrival, with_target_end};
+ghost use Rattle.replay_run.specs.Changes.{IsUnended, MayArrive, MayArriveAtTarget, change_net, change_target, with_arrival, with_bytes, with_client_end, with_client_narrow, with_lookup, with_plan, with_room, with_side_narrow, with_target_arrival, with_target_end, with_target_narrow};
 
 use assoc_core::{Assoc, Ended};
 use net_ends::{DialPlan, Lookup, MemLink, MemNet};
+use socks_machine::Object;
 use std::alloc::AllocError;
 
 /// An association of a replay, with the net that it dials.
@@ -98,6 +99,40 @@ impl Slot {
                 None => net.end(),
                 Some(link) => link.end(),
             },
+            _ => {}
+        }
+    }
+
+    /// Each write to the client takes so many bytes at most.
+    pub fn narrow_client(&mut self, most: usize)
+        ensures { self.new ≡ with_client_narrow most self.old }
+    {
+        match self {
+            Slot::Going { assoc, net } => assoc.client.set_room(most),
+            _ => {}
+        }
+    }
+
+    /// Each write to the target takes so many bytes at most.
+    pub fn narrow_target(&mut self, most: usize)
+        ensures { self.new ≡ with_target_narrow most self.old }
+    {
+        match self {
+            Slot::Going { assoc, net } => match &mut assoc.target {
+                None => net.set_room(most),
+                Some(link) => link.set_room(most),
+            },
+            _ => {}
+        }
+    }
+
+    /// Each write to this side takes so many bytes at most.
+    pub fn narrow(&mut self, side: Object, most: usize)
+        ensures { self.new ≡ with_side_narrow side most self.old }
+    {
+        match side {
+            Object::Client => self.narrow_client(most),
+            Object::Target => self.narrow_target(most),
             _ => {}
         }
     }
