@@ -3,6 +3,7 @@ use Rattle.std.specs.Prelude.{◌≡◌, ◌≤◌, ◌+◌, ◌-◌, ℕ, zero,
 use Rattle.conf_model.specs.declared.user.User.{User}
 use Rattle.conf_model.specs.Plain.{IsPlain}
 use Rattle.rule_list.specs.Numbers.{FitsNumbers}
+use Rattle.socks_machine.specs.declared.world.Object.{Object}
 use Rattle.socks_machine.specs.declared.world.Outer.{Outer}
 use Rattle.socks_machine.specs.declared.script.ScriptLine.{ScriptLine}
 use Rattle.socks_machine.specs.Inputs.{is_served_input}
@@ -48,6 +49,7 @@ allows s (ScriptLine.ClientEnd a) = on_side (side_of s a) (λ side. not side.end
 allows s (ScriptLine.TargetEnd a) = on_side (side_of s a) (λ side. not side.end_t)
 allows s (ScriptLine.Lookup a outer) = on_side (side_of s a) (λ side. not side.looked)
 allows s (ScriptLine.Dial a outer) = on_side (side_of s a) (λ side. not side.dialled)
+allows s (ScriptLine.Room a object most) = on_side (side_of s a) (λ side. true)
 allows s (ScriptLine.Now n) = nat_le s.moment n
 allows s (ScriptLine.Turn w a) = s.seen && on_side (side_of s a) (λ side. true)
 allows s _ = false
@@ -90,6 +92,12 @@ IsServedLookup (Outer.Looked found) = Unit {0}
 IsServedLookup Outer.Failed = Unit {0}
 IsServedLookup _ = ⊥
 
+-- the client or the target
+abbrev pub IsServedRoom : Object → Type 0
+IsServedRoom Object.Client = Unit {0}
+IsServedRoom Object.Target = Unit {0}
+IsServedRoom _ = ⊥
+
 -- what is served of a line, whatever stands before it
 abbrev pub IsServedForm : ScriptLine → Type 0
 IsServedForm (ScriptLine.UsersAre users) = are_users users ≡ true
@@ -102,6 +110,7 @@ IsServedForm (ScriptLine.ClientEnd a) = Unit {0}
 IsServedForm (ScriptLine.TargetEnd a) = Unit {0}
 IsServedForm (ScriptLine.Lookup a outer) = IsServedLookup outer
 IsServedForm (ScriptLine.Dial a outer) = IsServedOutcome outer
+IsServedForm (ScriptLine.Room a object most) = IsServedRoom object
 IsServedForm (ScriptLine.Now n) = Unit {0}
 IsServedForm (ScriptLine.Turn w a) = w ≡ 1
 IsServedForm _ = ⊥
