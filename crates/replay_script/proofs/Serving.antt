@@ -1,13 +1,14 @@
 -- A script that is read is served.
 use Rattle.std.proofs.Common.{◌≢◌, ◌+◌, ℕ, List, [], ◌∷◌, inl, inr, Some, None, Result, Ok, Err, IfOk, sym, subst}
+use Rattle.socks_machine.specs.declared.world.Object.{Object}
 use Rattle.socks_machine.specs.declared.world.Outer.{Outer}
 use Rattle.socks_machine.specs.declared.script.ScriptLine.{ScriptLine}
 use Rattle.replay_script.specs.declared.entry.Entry.{Entry}
 use Rattle.replay_script.specs.declared.fault.ScriptFault.{ScriptFault}
 use Rattle.replay_script.specs.declared.fault.ScriptKind.{ScriptKind}
 use Rattle.replay_script.specs.declared.state.State.{State}
-use Rattle.replay_script.specs.Conditions.{start, after, IsServedOutcome, IsServedLookup, IsServedForm, IsServedFrom, IsServed}
-use Rattle.replay_script.specs.Forms.{IsOutcome, IsFound, Spells}
+use Rattle.replay_script.specs.Conditions.{start, after, IsServedOutcome, IsServedLookup, IsServedForm, IsServedRoom, IsServedFrom, IsServed}
+use Rattle.replay_script.specs.Forms.{IsBound, IsOutcome, IsFound, Spells}
 use Rattle.replay_script.specs.Script.{SpellsEntry, Begins, IsServedEntry, Refuses, Reads, AreLines, IsRefusedAt, IsScript, OnLines, OnLinesFault, lines_of}
 use Rattle.replay_script.proofs.Publishing.{published_fits}
 use Rattle.replay_script.proofs.Giving.{given_fits}
@@ -27,6 +28,11 @@ found_served text (Outer.Looked None) h = tt
 found_served text Outer.Failed h = tt
 found_served text _ h = h
 
+bound_served : (text : List ℕ) (object : Object) (most : ℕ) → IsBound text object most → IsServedRoom object
+bound_served text Object.Client most h = tt
+bound_served text Object.Target most h = tt
+bound_served text _ most h = h
+
 spelled_served : (text : List ℕ) (l : ScriptLine) → Spells text l → IsServedForm l
 spelled_served text (ScriptLine.See w) h = h.0
 spelled_served text (ScriptLine.Open w n peer at) h = h.0
@@ -36,6 +42,7 @@ spelled_served text (ScriptLine.ClientEnd n) h = tt
 spelled_served text (ScriptLine.TargetEnd n) h = tt
 spelled_served text (ScriptLine.Lookup n outer) h = found_served h.2.1 outer h.2.3.1
 spelled_served text (ScriptLine.Dial n outer) h = outcome_served h.2.1 outer h.2.3.1
+spelled_served text (ScriptLine.Room n object most) h = bound_served h.2.1 object most h.2.3.1
 spelled_served text (ScriptLine.Now n) h = tt
 spelled_served text (ScriptLine.Turn w n) h = h.0
 spelled_served text _ h = absurd h

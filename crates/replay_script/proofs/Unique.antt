@@ -6,11 +6,12 @@ use Rattle.addr_pattern.specs.declared.addr.Addr.{Addr}
 use Rattle.addr_pattern.specs.declared.endpoint.Endpoint.{Endpoint}
 use Rattle.addr_pattern.specs.declared.fault.AddrFault.{AddrFault}
 use Rattle.addr_pattern.specs.Reading.{addr_read}
+use Rattle.socks_machine.specs.declared.world.Object.{Object}
 use Rattle.socks_machine.specs.declared.world.Outer.{Outer}
 use Rattle.socks_machine.specs.declared.script.ScriptLine.{ScriptLine}
 use Rattle.replay_script.specs.Conf.{publish_word}
 use Rattle.replay_script.specs.Cuts.{IsNumber}
-use Rattle.replay_script.specs.Forms.{largest, Spells, IsEndpoint, IsHex, IsNumbered, IsOpen, IsSent, IsClient, IsTarget, IsDial, IsOutcome, is_skipped, IsAddress, IsLookup, IsFound}
+use Rattle.replay_script.specs.Forms.{largest, Spells, IsEndpoint, IsHex, IsNumbered, IsOpen, IsSent, IsClient, IsTarget, IsDial, IsOutcome, is_skipped, IsAddress, IsLookup, IsFound, IsBound, IsRoom}
 use Rattle.replay_script.specs.Users.{users_word}
 use Rattle.replay_script.proofs.Peeling.{peel_after, peel_cut, peel_number}
 
@@ -130,6 +131,26 @@ one_lookup text n m a b h k =
     let k2 = peel_number 32 largest h.0 h.2.0 h.2.1 _ refl (omega arith) h.2.2 k1 in
     (sym h.2.3.0 ∙ k2.0, one_found h.2.1 a b h.2.3.1 k2.1)
 
+one_bound : (text : List ℕ) (a b : Object) (n m : ℕ) → IsBound text a n → IsBound text b m → (a ≡ b) × (n ≡ m)
+one_bound text Object.Client Object.Client n m h k = (refl, one_numbered (codes "client ") text n m h k)
+one_bound text Object.Target Object.Target n m h k = (refl, one_numbered (codes "target ") text n m h k)
+one_bound text Object.Client Object.Target n m h k =
+    let e : ◌≡◌ {A = ℕ} 99 116 = ap (λ (z : List ℕ). get_or z 0 0) (sym h.1 ∙ k.1) in
+    absurd (omega (arith, e))
+one_bound text Object.Target Object.Client n m h k =
+    let e : ◌≡◌ {A = ℕ} 116 99 = ap (λ (z : List ℕ). get_or z 0 0) (sym h.1 ∙ k.1) in
+    absurd (omega (arith, e))
+one_bound text Object.Client _ n m h k = absurd k
+one_bound text Object.Target _ n m h k = absurd k
+one_bound text _ _ n m h k = absurd h
+
+one_room : (text : List ℕ) (n m : ℕ) (a b : Object) (most other : ℕ) → IsRoom text n a most → IsRoom text m b other → (n ≡ m) × (a ≡ b) × (most ≡ other)
+one_room text n m a b most other h k =
+    let k1 = peel_after (codes "room ") text h.0 _ h.1 k in
+    let k2 = peel_number 32 largest h.0 h.2.0 h.2.1 _ refl (omega arith) h.2.2 k1 in
+    let e = one_bound h.2.1 a b most other h.2.3.1 k2.1 in
+    (sym h.2.3.0 ∙ k2.0, e.0, e.1)
+
 client_end : (text : List ℕ) (n m : ℕ) (xs : List ℕ) → IsClient text n xs → IsNumbered (codes "clientend ") text m → ⊥
 client_end text n m xs h k =
     let e : ◌≡◌ {A = ℕ} 32 101 = ap (λ (z : List ℕ). get_or z 6 0) (sym h.0.1 ∙ k.1) in
@@ -158,6 +179,7 @@ code (ScriptLine.ClientEnd n) = two_bytes 99 108
 code (ScriptLine.TargetEnd n) = two_bytes 116 97
 code (ScriptLine.Lookup n o) = two_bytes 108 111
 code (ScriptLine.Dial n o) = two_bytes 100 105
+code (ScriptLine.Room n o most) = two_bytes 114 111
 code (ScriptLine.Now n) = two_bytes 110 111
 code (ScriptLine.Turn w n) = two_bytes 116 117
 code _ = 0
@@ -172,6 +194,7 @@ begins_with_code text (ScriptLine.ClientEnd n) h = (ap front_code h.1, omega ari
 begins_with_code text (ScriptLine.TargetEnd n) h = (ap front_code h.1, omega arith)
 begins_with_code text (ScriptLine.Lookup n o) h = (ap front_code h.1, omega arith)
 begins_with_code text (ScriptLine.Dial n o) h = (ap front_code h.1, omega arith)
+begins_with_code text (ScriptLine.Room n o most) h = (ap front_code h.1, omega arith)
 begins_with_code text (ScriptLine.Now n) h = (ap front_code h.1, omega arith)
 begins_with_code text (ScriptLine.Turn w n) h = (ap front_code h.1.1, omega arith)
 begins_with_code text _ h = absurd h
@@ -189,6 +212,7 @@ same_form text (ScriptLine.ClientEnd n) (ScriptLine.ClientEnd m) e s h k = let r
 same_form text (ScriptLine.TargetEnd n) (ScriptLine.TargetEnd m) e s h k = let r = one_numbered (codes "targetend ") text n m h k in cc r
 same_form text (ScriptLine.Lookup n a) (ScriptLine.Lookup m b) e s h k = let r = one_lookup text n m a b h k in cc (r.0, r.1)
 same_form text (ScriptLine.Dial n a) (ScriptLine.Dial m b) e s h k = let r = one_dial text n m a b h k in cc (r.0, r.1)
+same_form text (ScriptLine.Room n a most) (ScriptLine.Room m b other) e s h k = let r = one_room text n m a b most other h k in cc (r.0, r.1, r.2)
 same_form text (ScriptLine.Now n) (ScriptLine.Now m) e s h k = let r = one_numbered (codes "now ") text n m h k in cc r
 same_form text (ScriptLine.Turn w n) (ScriptLine.Turn v m) e s h k =
     let r = one_numbered (codes "turn 1 ") text n m h.1 k.1 in
@@ -223,6 +247,7 @@ head_apart text (ScriptLine.ClientEnd n) h = other_head (get_or text 0 0) 99 (ap
 head_apart text (ScriptLine.TargetEnd n) h = other_head (get_or text 0 0) 116 (ap (λ (z : List ℕ). get_or z 0 0) h.1) (omega arith, λ f. absurd (omega (arith, f)), λ f. absurd (omega (arith, f)))
 head_apart text (ScriptLine.Lookup n o) h = other_head (get_or text 0 0) 108 (ap (λ (z : List ℕ). get_or z 0 0) h.1) (omega arith, λ f. absurd (omega (arith, f)), λ f. absurd (omega (arith, f)))
 head_apart text (ScriptLine.Dial n o) h = other_head (get_or text 0 0) 100 (ap (λ (z : List ℕ). get_or z 0 0) h.1) (omega arith, λ f. absurd (omega (arith, f)), λ f. absurd (omega (arith, f)))
+head_apart text (ScriptLine.Room n o most) h = other_head (get_or text 0 0) 114 (ap (λ (z : List ℕ). get_or z 0 0) h.1) (omega arith, λ f. absurd (omega (arith, f)), λ f. absurd (omega (arith, f)))
 head_apart text (ScriptLine.Now n) h = other_head (get_or text 0 0) 110 (ap (λ (z : List ℕ). get_or z 0 0) h.1) (omega arith, λ f. absurd (omega (arith, f)), λ f. absurd (omega (arith, f)))
 head_apart text (ScriptLine.Turn w n) h = other_head (get_or text 0 0) 116 (ap (λ (z : List ℕ). get_or z 0 0) h.1.1) (omega arith, λ f. absurd (omega (arith, f)), λ f. absurd (omega (arith, f)))
 head_apart text _ h = absurd h

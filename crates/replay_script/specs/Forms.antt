@@ -4,6 +4,7 @@ use Rattle.addr_pattern.specs.declared.addr.Addr.{Addr}
 use Rattle.addr_pattern.specs.declared.endpoint.Endpoint.{Endpoint}
 use Rattle.addr_pattern.specs.Reading.{addr_read, endpoint_read}
 use Rattle.hex.specs.Hex.{decode_of}
+use Rattle.socks_machine.specs.declared.world.Object.{Object}
 use Rattle.socks_machine.specs.declared.world.Outer.{Outer}
 use Rattle.socks_machine.specs.declared.script.ScriptLine.{ScriptLine}
 use Rattle.replay_script.specs.Cuts.{IsNumber, After, NumberThen, CutThen}
@@ -23,7 +24,7 @@ IsAddress text a = addr_read text ≡ Ok a
 unfoldable pub IsHex : List ℕ → List ℕ → Type 0
 IsHex text bytes = (0 < length bytes) × (decode_of text ≡ Ok bytes)
 
--- a word, and the number of an association or of seconds
+-- a word, and the number of an association, of bytes or of seconds
 abbrev pub IsNumbered : List ℕ → List ℕ → ℕ → Type 0
 IsNumbered front text n = After front text (λ rest. IsNumber largest rest n)
 
@@ -70,6 +71,15 @@ IsFound text _ = ⊥
 abbrev pub IsLookup : List ℕ → ℕ → Outer → Type 0
 IsLookup text n outer = After (codes "lookup ") text (λ rest. NumberThen 32 largest rest (λ m found. (m ≡ n) × IsFound found outer))
 
+-- a side, and how many bytes each write to it takes at most
+abbrev pub IsBound : List ℕ → Object → ℕ → Type 0
+IsBound text Object.Client most = IsNumbered (codes "client ") text most
+IsBound text Object.Target most = IsNumbered (codes "target ") text most
+IsBound text _ most = ⊥
+
+abbrev pub IsRoom : List ℕ → ℕ → Object → ℕ → Type 0
+IsRoom text n object most = After (codes "room ") text (λ rest. NumberThen 32 largest rest (λ m bound. (m ≡ n) × IsBound bound object most))
+
 -- the text is this line
 abbrev pub Spells : List ℕ → ScriptLine → Type 0
 Spells text (ScriptLine.See w) = (w ≡ 1) × (text ≡ codes "see 1")
@@ -80,6 +90,7 @@ Spells text (ScriptLine.ClientEnd n) = IsNumbered (codes "clientend ") text n
 Spells text (ScriptLine.TargetEnd n) = IsNumbered (codes "targetend ") text n
 Spells text (ScriptLine.Lookup n outer) = IsLookup text n outer
 Spells text (ScriptLine.Dial n outer) = IsDial text n outer
+Spells text (ScriptLine.Room n object most) = IsRoom text n object most
 Spells text (ScriptLine.Now n) = IsNumbered (codes "now ") text n
 Spells text (ScriptLine.Turn w n) = (w ≡ 1) × IsNumbered (codes "turn 1 ") text n
 Spells text _ = ⊥

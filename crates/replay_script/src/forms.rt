@@ -1,20 +1,21 @@
 ghost use Rattle.std.specs.Prelude.{◌≡◌, ◌++◌, ℕ, List, IfOk, MatchOption, codes};
 ghost use Rattle.addr_pattern.specs.declared.endpoint.Endpoint.{Endpoint as SomeEndpoint};
+ghost use Rattle.socks_machine.specs.declared.world.Object.{Object as SomeObject};
 ghost use Rattle.socks_machine.specs.declared.world.Outer.{Outer as SomeOuter};
 ghost use Rattle.socks_machine.specs.declared.script.ScriptLine.{ScriptLine as SomeLine};
-ghost use Rattle.replay_script.specs.Forms.{Spells, IsNumbered, IsOpen, IsSent, IsArrival, IsDial, IsOutcome, is_skipped as skips, IsLookup, IsFound};
+ghost use Rattle.replay_script.specs.Forms.{Spells, IsNumbered, IsOpen, IsSent, IsArrival, IsDial, IsOutcome, is_skipped as skips, IsLookup, IsFound, IsBound, IsRoom};
 
 use crate::cuts::{behind, cut, number, number_then, same};
 use crate::values::{address, endpoint, hex};
 use addr_pattern::Endpoint;
 use conf_text::Text;
-use socks_machine::{Outer, ScriptLine};
+use socks_machine::{Object, Outer, ScriptLine};
 use std::alloc::{AllocError, Global};
 
 /// The most bytes of a client or of a target in one line.
 const MOST_AT_ONCE: usize = 65_536;
 
-/// The number of an association or of seconds behind a word.
+/// The number of an association, of bytes or of seconds behind a word.
 pub fn numbered(alloc: Global, text: &[u8], front: &[u8]) -> Result<Option<u64>, AllocError>
     ensures { IfOk result (λ found. MatchOption found ((n : ℕ) → IsNumbered front.now text.now n → ⊥) (λ n. IsNumbered front.now text.now n)) }
 {
@@ -139,6 +140,34 @@ fn lookup_line(alloc: Global, text: &[u8]) -> Result<Option<(u64, Outer)>, Alloc
     Ok(Some((n, outer)))
 }
 
+/// A side, and how many bytes each write to it takes at most.
+fn bound(alloc: Global, text: &[u8]) -> Result<Option<(Object, u64)>, AllocError>
+    ensures { IfOk result (λ found. MatchOption found ((object : SomeObject) (most : ℕ) → IsBound text.now object most → ⊥) (λ p. IsBound text.now p.0 p.1)) }
+{
+    if let Some(most) = numbered(alloc, text, b"client ")? {
+        return Ok(Some((Object::Client, most)));
+    }
+    if let Some(most) = numbered(alloc, text, b"target ")? {
+        return Ok(Some((Object::Target, most)));
+    }
+    Ok(None)
+}
+
+fn room_line(alloc: Global, text: &[u8]) -> Result<Option<(u64, Object, u64)>, AllocError>
+    ensures { IfOk result (λ found. MatchOption found ((n : ℕ) (object : SomeObject) (most : ℕ) → IsRoom text.now n object most → ⊥) (λ p. IsRoom text.now p.0 p.1 p.2)) }
+{
+    let Some(rest) = behind(text, b"room ") else {
+        return Ok(None);
+    };
+    let Some((n, back)) = number_then(alloc, rest, b' ', u64::MAX)? else {
+        return Ok(None);
+    };
+    let Some((object, most)) = bound(alloc, back)? else {
+        return Ok(None);
+    };
+    Ok(Some((n, object, most)))
+}
+
 /// The line that a text spells.
 pub fn line_of(alloc: Global, text: &[u8]) -> Result<Option<ScriptLine>, AllocError>
     ensures { IfOk result (λ found. MatchOption found ((l : SomeLine) → Spells text.now l → ⊥) (λ l. Spells text.now l)) }
@@ -157,6 +186,9 @@ pub fn line_of(alloc: Global, text: &[u8]) -> Result<Option<ScriptLine>, AllocEr
     }
     if let Some(seconds) = numbered(alloc, text, b"now ")? {
         return Ok(Some(ScriptLine::Now(seconds)));
+    }
+    if let Some((number, object, most)) = room_line(alloc, text)? {
+        return Ok(Some(ScriptLine::Room(number, object, most)));
     }
     if let Some((number, outer)) = lookup_line(alloc, text)? {
         return Ok(Some(ScriptLine::Lookup(number, outer)));

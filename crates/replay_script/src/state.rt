@@ -1,7 +1,8 @@
 ghost use Rattle.std.specs.Prelude.{◌≡◌, true, IfOk, MatchOption, None, ◌+◌, ◌<◌, length, ℕ, List as Items};
 ghost use Rattle.addr_pattern.specs.declared.endpoint.Endpoint.{Endpoint as SomeEndpoint};
+ghost use Rattle.socks_machine.specs.declared.world.Object.{Object as SomeObject};
 ghost use Rattle.socks_machine.specs.declared.world.Outer.{Outer as SomeOuter};
-ghost use Rattle.socks_machine.specs.declared.script.ScriptLine.TheVariants.{UsersAre, Open, Client, Target, ClientEnd, TargetEnd, Dial, Turn, Lookup, Now};
+ghost use Rattle.socks_machine.specs.declared.script.ScriptLine.TheVariants.{UsersAre, Open, Client, Target, ClientEnd, TargetEnd, Dial, Turn, Lookup, Now, Room};
 ghost use Rattle.replay_script.specs.Conditions.{start, fresh_side, side_of, may_give as may_give_of, Allowed, IsServedForm};
 ghost use Rattle.replay_script.specs.Script.{is_looked_at};
 ghost use Rattle.user_login.specs.UsersFile.{are_users};
@@ -196,6 +197,12 @@ impl State {
         self.place(number).is_some()
     }
 
+    fn may_bound(&self, number: u64) -> bool
+        ensures { (object : SomeObject) (most : ℕ) → Allowed self.now self.now (Room number object most) result }
+    {
+        self.place(number).is_some()
+    }
+
     fn moved(&mut self, now: u64) -> bool
         ensures { Allowed self.old self.new (Now now) result }
     {
@@ -260,6 +267,7 @@ impl State {
             ScriptLine::TargetEnd(number) => Ok(self.target_end(alloc, *number)),
             ScriptLine::Lookup(number, _) => Ok(self.looked_up(alloc, *number)),
             ScriptLine::Dial(number, _) => Ok(self.dialled(alloc, *number)),
+            ScriptLine::Room(number, _, _) => Ok(self.may_bound(*number)),
             ScriptLine::Now(now) => Ok(self.moved(*now)),
             ScriptLine::Turn(_, number) => Ok(self.may_turn(*number)),
             _ => Ok(false),

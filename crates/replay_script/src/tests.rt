@@ -2,7 +2,7 @@ use super::*;
 use addr_pattern::Addr;
 use conf_model::{ConfFault, ConfKind};
 use conf_text::{Text, TextFault};
-use socks_machine::{Outer, ScriptLine};
+use socks_machine::{Object, Outer, ScriptLine};
 use std::alloc::{AllocError, Global};
 use std::test::*;
 use user_login::{UsersFault, UsersKind};
@@ -157,6 +157,17 @@ fn the_other_lines(rt: HostRuntime) -> Result<(), Fail> {
         (8, "dial 1 up [::1]\n"),
         (9, "dial 1 refused\ndial 1 up 1.2.3.4:1\n"),
         (9, "dial 1 host\ndial 1 fail\n"),
+        (8, "room 1 client\n"),
+        (8, "room 1 client \n"),
+        (8, "room 1  client 1\n"),
+        (8, "room 1 client 01\n"),
+        (8, "room 1 client 18446744073709551616\n"),
+        (8, "room 1 door 1\n"),
+        (8, "room 1 port 1\n"),
+        (8, "room 1 1\n"),
+        (8, "room client 1\n"),
+        (8, "room 0 client 1\n"),
+        (8, "room 2 target 1\n"),
         (8, "now\n"),
         (8, "now \n"),
         (8, "now  5\n"),
@@ -464,23 +475,48 @@ fn every_outcome(rt: HostRuntime) -> Result<(), Fail> {
 }
 
 #[test]
-fn how_the_moment_moves(rt: HostRuntime) -> Result<(), Fail> {
-    let script = format!(in rt.alloc();
-        "{HEAD}now 0\nnow 7\nnow 7\nnow 18446744073709551615\nnow 18446744073709551615"
-    )?;
-    let mut moments = [0, 7, 7, u64::MAX, u64::MAX].iter();
-    match read_script(rt.alloc(), script.as_bytes()) {
-        Err(_) => Err("a moment was refused")?,
-        Ok(lines) => {
-            for line in lines.as_slice() {
-                match line {
-                    ScriptLine::Now(now) => assert_eq!(rt; Some(now), moments.next()),
-                    _ => Err("a line is no moment")?,
+fn how_much_a_write_takes(rt: HostRuntime) -> Result<(), Fail> {
+    for (object, most, text) in [
+        (Object::Client, 0, "room 1 client 0"),
+        (Object::Target, 1, "room 1 target 9\nroom 1 target 1\n"),
+        (
+            Object::Client,
+            u64::MAX,
+            "clientend 1\nroom 1 client 18446744073709551615\n",
+        ),
+    ] {
+        let script = format!(in rt.alloc(); "{RULES}{text}")?;
+        match read_script(rt.alloc(), script.as_bytes()) {
+            Err(_) => Err("a bound was refused")?,
+            Ok(lines) => match lines.as_slice().last() {
+                Some(ScriptLine::Room(1, of, bound)) => {
+                    assert_eq!(rt; *of, object, "at {text}");
+                    assert_eq!(rt; *bound, most, "at {text}");
                 }
-            }
+                _ => Err("the last line is no bound")?,
+            },
         }
     }
-    assert!(rt; moments.next().is_none());
+    Ok(())
+}
+
+#[test]
+fn how_the_moment_moves(rt: HostRuntime) -> Result<(), Fail> {
+    for (moment, text) in [
+        (0, "now 0"),
+        (7, "#\nnow 7\n"),
+        (7, "now 7\nnow 7\n"),
+        (u64::MAX, "now 7\nnow 18446744073709551615"),
+    ] {
+        let script = format!(in rt.alloc(); "{HEAD}{text}")?;
+        match read_script(rt.alloc(), script.as_bytes()) {
+            Err(_) => Err("a moment was refused")?,
+            Ok(lines) => match lines.as_slice().last() {
+                Some(ScriptLine::Now(found)) => assert_eq!(rt; *found, moment, "at {text}"),
+                _ => Err("the last line is no moment")?,
+            },
+        }
+    }
     Ok(())
 }
 
