@@ -178,6 +178,8 @@ fresh-turns told counts stands users pubs generation config cap h marks now net 
       idle_t = λ h1. absurd (cc);
       full_c = λ h1. absurd (cc);
       full_t = λ h1. absurd (cc);
+      room_c = λ h1. refl;
+      room_t = λ h1. refl;
       fails_c = λ h1. absurd (cc);
       unfailing = λ h1 h2. (refl, refl);
     }
@@ -222,6 +224,8 @@ fresh-turns told counts stands users pubs generation config cap h marks now net 
       idle_t = λ h1. absurd (cc);
       full_c = λ h1. absurd (cc);
       full_t = λ h1. absurd (cc);
+      room_c = λ h1. refl;
+      room_t = λ h1. refl;
       fails_c = λ h1. absurd (cc);
       unfailing = λ h1 h2. (refl, refl);
     }

@@ -150,6 +150,7 @@ waits-for told counts stands users pubs generation config most h marks now net a
       since' = refl;
       number' = refl;
       told' = told-sent (told a.client) (told b.client) (told client) t.x sends'.bytes false (k.hears).told' sends'.told';
+      stuck = λ e1. sends'.stuck (ap (λ (z : Told). z.room) (k.hears).told' ∙ e1);
       target' = k.target';
       at_end = λ e1. absurd (cc);
       first = subst GivesFirst (sym sends'.told') ((k.hears).first (k.stands).client_first);
@@ -212,6 +213,7 @@ writes-fail told counts stands users pubs generation config most h marks now net
       target' = k.target';
       told' = told-sent (told a.client) (told b.client) (told client) t.x sends'.bytes false (k.hears).told' sends'.told';
       sent' = sends'.after';
+      stuck = λ e1. sends'.stuck (ap (λ (z : Told). z.room) (k.hears).told' ∙ e1);
       behind = heard t;
       takes = takes-open t (links true false) [] (heard t) (settled-more t more) (heard-nothing t);
       open' = heard t;

@@ -264,6 +264,7 @@ asks-turn {L = L} told counts stands k outer ds refused h marks net net' a b nex
       since' = refl;
       number' = refl;
       told' = told-sent (told a.client) (told b.client) (told w.client) (k.said).x sends'.bytes false j.told' sends'.told';
+      stuck = λ e1. sends'.stuck (ap (λ (z : Told). z.room) j.told' ∙ e1);
       target' = target';
       at_end = λ e1. absurd (cc);
       first = subst GivesFirst (sym sends'.told') j.first;

@@ -24,7 +24,11 @@ pub record TakesSoFar (old new : Told) (counts counts' : Counts) (before after :
   pub behind : EndsBehind old → EndsBehind new
   pub first : GivesFirst old → GivesFirst new
 
-told-same : (old : Told) → old ≡ record old { given = more old.given [] }
+-- nothing follows from a test that contradicts itself
+pub never : {A : Type 0} → false ≡ true → A
+never e = cc
+
+pub told-same : (old : Told) → old ≡ record old { given = more old.given [] }
 told-same old = λ i. record old { given = sym (more-nil old.given) i }
 
 pub starts : (told : Told) (counts : Counts) (text : List ℕ) → TakesSoFar told told counts counts text text quantum
@@ -63,7 +67,7 @@ pub fewer : (part : List ℕ) (left : ℕ) → length part + left ≡ quantum �
 fewer part left h some = lt-leb quantum (length part) (omega (arith, h, some))
 
 -- nothing was read
-pub unread : (told : Told) (counts : Counts) (text : List ℕ) (reads was : Bool) (take : Take) → TakeEnds told counts counts [] reads was take → is_quantum take ≡ false
+abbrev pub unread : (told : Told) (counts : Counts) (text : List ℕ) (reads was : Bool) (take : Take) → TakeEnds told counts counts [] reads was take → is_quantum take ≡ false
     → TakesPart told told counts counts text text reads was was take
 unread told counts text reads was take why fewer = record {
   part = [];
@@ -71,8 +75,8 @@ unread told counts text reads was take why fewer = record {
   after' = sym (append-nil text);
   ended' = refl;
   told' = told-same told;
-  may = record { bytes = λ h. cc; end = λ h. cc };
-  below = λ h. cc;
+  may = record { bytes = λ h. never h; end = λ h. never h };
+  below = λ h. never h;
   whole = sym fewer;
   later = later-same counts;
   why = why;
@@ -81,7 +85,7 @@ unread told counts text reads was take why fewer = record {
 }
 
 -- a source that hasn't ended gave nothing more
-pub stops : (old mid new : Told) (counts counts' counts'' : Counts) (before text after : List ℕ) (left : ℕ) (reads was ended : Bool) (take : Take) → (h : TakesSoFar old mid counts counts' before text left)
+abbrev pub stops : (old mid new : Told) (counts counts' counts'' : Counts) (before text after : List ℕ) (left : ℕ) (reads was ended : Bool) (take : Take) → (h : TakesSoFar old mid counts counts' before text left)
     → Rests mid new text after → Later counts' counts'' → was ≡ false → ended ≡ false → TakeEnds new counts counts'' h.part reads ended take → nat_le quantum (length h.part) ≡ is_quantum take
     → TakesPart old new counts counts'' before after reads was ended take
 stops old mid new counts counts' counts'' before text after left reads was ended take h k later unended unended' why whole = record {
@@ -91,7 +95,7 @@ stops old mid new counts counts' counts'' before text after left reads was ended
   ended' = unended' ∙ sym unended;
   told' = k.told' ∙ h.told';
   may = record { bytes = λ some. unended; end = λ e. unended };
-  below = λ e. cc;
+  below = λ e. never e;
   whole = whole;
   later = later-on counts counts' counts'' h.later later;
   why = why;
@@ -99,17 +103,17 @@ stops old mid new counts counts' counts'' before text after left reads was ended
   first = λ x. subst GivesFirst (sym k.told') (h.first x);
 }
 
-same : (told : Told) (text : List ℕ) → Rests told told text text
+pub same : (told : Told) (text : List ℕ) → Rests told told text text
 same told text = record { after' = refl; told' = refl }
 
 -- a quantum was taken
-pub fills-quantum : (old new : Told) (counts counts' : Counts) (before after : List ℕ) (left : ℕ) (reads was ended : Bool) → TakesSoFar old new counts counts' before after left
+abbrev pub fills-quantum : (old new : Told) (counts counts' : Counts) (before after : List ℕ) (left : ℕ) (reads was ended : Bool) → TakesSoFar old new counts counts' before after left
     → left ≤ 0 → was ≡ false → ended ≡ false → TakesPart old new counts counts' before after reads was ended Take.Quantum
 fills-quantum old new counts counts' before after left reads was ended h none unended unended' =
     stops old new new counts counts' counts' before after after left reads was ended Take.Quantum h (same new after) (later-same counts') unended unended' (unended', omega (arith, h.count)) (le-leb quantum (length h.part) (omega (arith, h.count)))
 
 -- the source has ended
-pub ends-now : (old mid new : Told) (counts counts' counts'' : Counts) (before text after : List ℕ) (left : ℕ) (reads was : Bool) → TakesSoFar old mid counts counts' before text left
+abbrev pub ends-now : (old mid new : Told) (counts counts' counts'' : Counts) (before text after : List ℕ) (left : ℕ) (reads was : Bool) → TakesSoFar old mid counts counts' before text left
     → (after ≡ text) × (new ≡ record mid { ended = true }) → Later counts' counts'' → GivesArrived new Reading.End → 0 < left → was ≡ false
     → TakesPart old new counts counts'' before after reads was true Take.Ended
 ends-now old mid new counts counts' counts'' before text after left reads was h k later arrived some unended = record {
@@ -137,6 +141,7 @@ held told counts text pending gives ends was none = record {
   after' = sym (append-nil text);
   shut' = refl;
   told' = λ i. record told { taken = sym (more-nil told.taken) i };
+  stuck = λ e. refl;
   once = λ h. cc;
   due = λ h. cc;
   later = later-same counts;
@@ -152,13 +157,27 @@ gives-as old new counts counts' before after pending pending' gives gives' ends 
     (subst (λ (z : Bool). GivesPart old new counts counts' before after pending z ends' was shut give) k
     (subst (λ (z : Bool). GivesPart old new counts counts' before after pending gives z was shut give) l x))
 
-pub takes-as : (old new : Told) (counts counts' : Counts) (before after : List ℕ) (reads reads' was ended : Bool) (take : Take)
+abbrev pub takes-as : (old new : Told) (counts counts' : Counts) (before after : List ℕ) (reads reads' was ended : Bool) (take : Take)
     → reads ≡ reads' → TakesPart old new counts counts' before after reads was ended take → TakesPart old new counts counts' before after reads' was ended take
-takes-as old new counts counts' before after reads reads' was ended take h x = subst (λ (z : Bool). TakesPart old new counts counts' before after z was ended take) h x
+takes-as old new counts counts' before after reads reads' was ended take h x = record {
+  part = x.part;
+  ends = x.ends;
+  after' = x.after';
+  ended' = x.ended';
+  told' = x.told';
+  may = x.may;
+  below = x.below;
+  whole = x.whole;
+  later = x.later;
+  why = subst (λ (z : Bool). TakeEnds new counts counts' x.part z ended take) h x.why;
+  behind = x.behind;
+  first = x.first;
+}
 
 pub was-read : (take : Take) → (take ≡ Take.Failed → ⊥) → is_read take ≡ true
 was-read Take.Unread h = refl
 was-read Take.Ended h = refl
 was-read Take.NotYet h = refl
 was-read Take.Quantum h = refl
+was-read Take.Held h = refl
 was-read Take.Failed h = absurd (h refl)

@@ -178,6 +178,8 @@ over-desk told counts stands h marks s now net net' a next stood t = record {
   idle_t = t.idle_t;
   full_c = t.full_c;
   full_t = t.full_t;
+  room_c = t.room_c;
+  room_t = t.room_t;
   fails_c = t.fails_c;
   unfailing = t.unfailing;
 }

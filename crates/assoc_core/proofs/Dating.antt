@@ -1,5 +1,5 @@
 -- What a turn at the moment of the last movement comes to at another moment.
-use Rattle.std.proofs.Common.{◌≡◌, ℕ, ◌<◌, Bool, true, false, if◌then◌else◌, Option, Some, None, List, [], ◌++◌, refl, sym, ap, subst, ◌∙◌, length, is_some}
+use Rattle.std.proofs.Common.{◌≡◌, ℕ, ◌<◌, ◌≤◌, Bool, true, false, if◌then◌else◌, Option, Some, None, List, [], ◌++◌, refl, sym, ap, subst, ◌∙◌, length, is_some}
 use Rattle.addr_pattern.specs.declared.endpoint.Endpoint.{Endpoint}
 use Rattle.conf_model.specs.declared.config.Config.{Config}
 use Rattle.conf_model.specs.declared.protocol.Version.{Version}
@@ -109,15 +109,19 @@ redone {L} told counts stands stands' s now net net' a next next' t outer h = re
   lookup_plan = t.lookup_plan;
   plan' = h.plan';
   outer' = h.outer';
-  stops_c = λ worker. stops-as a.state.end_c t.acts.end_c t.acts.idle_c t.acts.c t.acts.fault _ _ (λ u. record { behind = u.behind; taken' = u.taken'; unread' = u.unread' }) (t.stops_c worker);
-  stops_t = λ worker. stops-as a.state.end_t t.acts.end_t t.acts.idle_t t.acts.t t.acts.fault _ _ (λ u. record { behind = u.behind; taken' = u.taken'; unread' = u.unread' }) (t.stops_t worker);
+  stops_c = λ worker. stops-as a.state.end_c t.acts.end_c t.acts.idle_c t.acts.c t.acts.fault _ _ _ _
+      (λ f. record { behind = f.behind; taken' = f.taken'; relays = f.relays; waits = subst (λ (r : Record). pipe_size ≤ waiting_for_target s.basis r) (sym h.left') f.waits })
+      (λ u. record { behind = u.behind; taken' = u.taken'; unread' = u.unread' }) (t.stops_c worker);
+  stops_t = λ worker. stops-as a.state.end_t t.acts.end_t t.acts.idle_t t.acts.t t.acts.fault _ _ _ _
+      (λ f. record { behind = f.behind; taken' = f.taken'; relays = f.relays; waits = subst (λ (r : Record). pipe_size ≤ waiting_for_client s.basis r) (sym h.left') f.waits })
+      (λ u. record { behind = u.behind; taken' = u.taken'; unread' = u.unread' }) (t.stops_t worker);
   reads_end_c = λ worker e. let k = t.reads_end_c worker e in record {
     unended = k.unended;
     below = k.below;
     behind = k.behind;
     taken' = k.taken';
     reads' = k.reads';
-    room = λ relays fine full. subst (λ (r : Record). waiting_for_target s.basis r < pipe_size) (sym h.left') (k.room relays fine full);
+    room = λ relays. subst (λ (r : Record). waiting_for_target s.basis r < pipe_size) (sym h.left') (k.room relays);
   };
   reads_end_t = λ worker e. let k = t.reads_end_t worker e in record {
     unended = k.unended;
@@ -125,7 +129,7 @@ redone {L} told counts stands stands' s now net net' a next next' t outer h = re
     behind = k.behind;
     taken' = k.taken';
     reads' = k.reads';
-    room = λ relays fine full. subst (λ (r : Record). waiting_for_client s.basis r < pipe_size) (sym h.left') (k.room relays fine full);
+    room = λ relays. subst (λ (r : Record). waiting_for_client s.basis r < pipe_size) (sym h.left') (k.room relays);
   };
   idle_c = λ e. subst (λ (l : L). IsIdle (told l) × Rose (counts a.client).idle_reads (counts l).idle_reads) (sym h.client) (t.idle_c e);
   idle_t = λ e. subst (λ (l : Option L). IsThereAnd l (λ link. IsIdle (told link))) (sym h.target) (t.idle_t e);
@@ -138,6 +142,8 @@ redone {L} told counts stands stands' s now net net' a next next' t outer h = re
     subst (λ (l : Option L). IsThereAnd l (λ link. IsFull (told link))) (sym h.target) f.0,
     subst (λ (r : Record). length r.sent_t < length (owed_t r)) (sym h.left') f.1,
   );
+  room_c = t.room_c;
+  room_t = t.room_t;
   fails_c = λ e. subst (λ (l : L). Rose (counts a.client).faults (counts l).faults) (sym h.client) (t.fails_c e);
   unfailing = t.unfailing;
 }

@@ -34,7 +34,7 @@ use Rattle.assoc_core.specs.Closing.{Closed}
 use Rattle.assoc_core.specs.Draining.{SendsClient, SendsTarget}
 use Rattle.assoc_core.specs.Plain.{IsPlainRecord, HasDecided, Untargeted, owed_c, owed_t, plain_to_target, prelude_of, Sought, behind_lookup}
 use Rattle.assoc_core.specs.Stands.{Holds, HoldsTarget, Stands, EndsBehind, GivesFirst}
-use Rattle.assoc_core.specs.Turns.{context, Turns, left_of, IsFull, IsThereAnd, IsUnfailing, SameOutside, SameTarget}
+use Rattle.assoc_core.specs.Turns.{context, Turns, left_of, IsFull, IsThereAnd, IsUnfailing, TakesNothing, SameOutside, SameTarget}
 use Rattle.assoc_core.proofs.Drains.{drained, Drains, DrainFault, DrainTurn, drain-closes, drain-waits, drain-turns}
 use Rattle.assoc_core.proofs.LinksHeld.{holds-given, ends-given, first-given, outside-given}
 use Rattle.assoc_core.proofs.PassLaws.{full-of, unsound-of, nothing-of, sound-written}
@@ -88,6 +88,7 @@ pub record DrainedTarget {L : Type 0} (told : L → Told) (net : NetTold) (old n
   pub is : new ≡ record old { sent_c = sent_c; sent_t = old.sent_t ++ part }
   pub holds' : HoldsTarget told (record old { sent_c = sent_c; sent_t = old.sent_t ++ part }) target'
   pub same : SameTarget told net target target'
+  pub stuck : TakesNothing told net target → part ≡ []
   pub nothing : is_sound give ≡ true → is_nothing rest ≡ not (is_full give)
   pub full : is_full give ≡ true → (0 < length rest) × IsThereAnd target' (λ link. IsFull (told link))
   pub unsound : is_sound give ≡ false → (0 < length rest) × (has_target old ≡ true) × (IsUnfailing told net target → ⊥)
@@ -101,6 +102,7 @@ target-drained users told net old new sent_c None None give plain held sends = r
   is = sends.0 ∙ (λ i. record old { sent_c = sent_c; sent_t = sym (append-nil old.sent_t) i });
   holds' = (held.0, held.1, ap (λ z. z ++ []) held.2, held.3);
   same = tt;
+  stuck = λ e. refl;
   nothing = λ h. ap (λ g. not (is_full g)) (sym sends.1);
   full = λ h. let e : is_full Give.Held ≡ true = ap is_full (sym sends.1) ∙ h in absurd (cc);
   unsound = λ h. let e : is_sound Give.Held ≡ false = ap is_sound (sym sends.1) ∙ h in absurd (cc);
@@ -120,6 +122,7 @@ target-drained {L} users told net old new sent_c (Some link) (Some link') give p
     first-given sends.gives held.3,
   );
   same = outside-given sends.gives;
+  stuck = sends.gives.stuck;
   nothing = λ h. nothing-of sends.gives refl (sound-written give h);
   full = λ h. let f = full-of sends.gives h in (f.0, f.1);
   unsound = λ h. (some-unsent sends.gives h, plain-target users old held.0.0 plain held.0.1, λ fine. clash ((told link).unfailing) fine (sym (outside-given sends.gives).unfailing ∙ (unsound-of sends.gives h).0));
@@ -137,6 +140,7 @@ pub record DrainedClient (old mid : Record) (told told' : Told) (counts counts' 
   pub ends' : EndsBehind told'
   pub first : GivesFirst told'
   pub same : SameOutside told told'
+  pub stuck : told.room ≡ Some 0 → part ≡ []
   pub nothing : is_sound give ≡ true → is_nothing rest ≡ not (is_full give)
   pub full : is_full give ≡ true → (0 < length rest) × IsFull told' × Rose counts.idle_writes counts'.idle_writes
   pub unsound : is_sound give ≡ false → (0 < length rest) × Rose counts.faults counts'.faults × (told.unfailing ≡ true → ⊥)
@@ -153,6 +157,7 @@ client-drained users old mid told told' counts counts' give plain held ends' fir
   ends' = ends-given sends.gives ends';
   first = first-given sends.gives first;
   same = outside-given sends.gives;
+  stuck = sends.gives.stuck;
   nothing = λ h. nothing-of sends.gives refl (sound-written give h);
   full = λ h. full-of sends.gives h;
   unsound = λ h. let f = unsound-of sends.gives h in (some-unsent sends.gives h, f.1, λ fine. clash told.unfailing fine (sym (outside-given sends.gives).unfailing ∙ f.0));
@@ -246,7 +251,7 @@ held-sent told old sent_c (Some link) h = (h.0, subst (λ (s : List ℕ). Holds 
 
 same-link : {L : Type 0} (told : L → Told) (net : NetTold) (target : Option L) → SameTarget told net target target
 same-link told net None = tt
-same-link told net (Some link) = record { arrived = refl; cap = refl; unfailing = refl }
+same-link told net (Some link) = record { arrived = refl; cap = refl; room = refl; unfailing = refl }
 
 -- the client's write failed, and nothing was sent to the target
 pub client-failed : {L : Type 0} (told : L → Told) (counts : L → Counts) (stands : List Line → List StopBy → Type 0)
@@ -264,6 +269,8 @@ client-failed {L} told counts stands users pubs generation config cap h marks no
       target = subst (λ (z : Option L). HoldsTarget told (drained a.state d.part []) z) (sym target) (held-sent told a.state (a.state.sent_c ++ d.part) a.target st.target);
       same_client = d.same;
       same_target = subst (λ (z : Option L). SameTarget told net a.target z) (sym target) (same-link told net a.target);
+      stuck_c = d.stuck;
+      stuck_t = λ e. refl;
       is_full_c = λ k. absurd (cc);
       is_full_t = λ k. absurd (cc);
       fails_c = λ k. (d.unsound unsound).1;
@@ -319,6 +326,8 @@ both-turn told counts net a mid next between cause gave_c gave_t fault unwritten
   target = held-all told a.state (a.state.sent_c ++ k.c.part) (a.state.sent_t ++ k.t.part) _ k.t.holds';
   same_client = k.c.same;
   same_target = k.t.same;
+  stuck_c = k.c.stuck;
+  stuck_t = k.t.stuck;
   is_full_c = k.c.full;
   is_full_t = k.t.full;
   fails_c = λ e. absurd (other e);

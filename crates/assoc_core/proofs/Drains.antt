@@ -30,7 +30,7 @@ use Rattle.assoc_core.specs.declared.assoc.Assoc.{Assoc}
 use Rattle.assoc_core.specs.declared.assoc.Next.{Next}
 use Rattle.assoc_core.specs.Plain.{IsPlainRecord, owed_c, owed_t}
 use Rattle.assoc_core.specs.Stands.{GoesDirect, Holds, HoldsTarget, EndsBehind, GivesFirst}
-use Rattle.assoc_core.specs.Turns.{Acts, event_of, context, links, Turns, GoesOn, left_of, mark_of, StopsReading, IsFull, IsThereAnd, IsUnfailing, SameOutside, SameTarget}
+use Rattle.assoc_core.specs.Turns.{Acts, event_of, context, links, Turns, GoesOn, left_of, mark_of, StopsReading, IsFull, IsThereAnd, IsUnfailing, TakesNothing, SameOutside, SameTarget}
 use Rattle.assoc_core.proofs.LinksHeld.{short}
 use Rattle.assoc_core.proofs.PlainRecords.{decided-forms, closing-phase, plain-owes-client, plain-owes-target}
 use Rattle.assoc_core.proofs.Rests.{rests-with}
@@ -215,6 +215,8 @@ pub record DrainTurn {L : Type 0} (told : L → Told) (counts : L → Counts) (b
   pub target : HoldsTarget told (drained a.state part_c part_t) (left_of next).target
   pub same_client : SameOutside (told a.client) (told (left_of next).client)
   pub same_target : SameTarget told net a.target (left_of next).target
+  pub stuck_c : (told a.client).room ≡ Some 0 → part_c ≡ []
+  pub stuck_t : TakesNothing told net a.target → part_t ≡ []
   pub is_full_c : full_c ≡ true → (0 < length rest_c) × IsFull (told (left_of next).client) × Rose (counts a.client).idle_writes (counts (left_of next).client).idle_writes
   pub is_full_t : full_t ≡ true → (0 < length rest_t) × IsThereAnd (left_of next).target (λ link. IsFull (told link))
   pub fails_c : fault ≡ Some Object.Client → Rose (counts a.client).faults (counts (left_of next).client).faults
@@ -268,6 +270,8 @@ drain-turns {L} told counts stands users pubs generation config cap h marks now 
   idle_t = λ e. absurd (cc);
   full_c = λ e. let f = k.is_full_c e in (f.1, f.2, short _ rest_c _ k.drains.owes_c f.0);
   full_t = λ e. let f = k.is_full_t e in (f.1, short _ rest_t _ k.drains.owes_t f.0);
+  room_c = λ e. ap (λ (z : List ℕ). length z) (k.stuck_c e);
+  room_t = λ e. ap (λ (z : List ℕ). length z) (k.stuck_t e);
   fails_c = k.fails_c;
   unfailing = k.unfailing;
 }

@@ -200,6 +200,7 @@ hangs-up {L = L} told counts stands users pubs generation config most h marks no
       target' = k.target';
       told' = told-heard (told a.client) (told b.client) t.x true (k.hears).told';
       sent' = sym (append-nil t.sent);
+      stuck = λ e1. refl;
       behind = gone t;
       takes = takes-end t [] [] more;
       open' = heard t;
@@ -262,6 +263,7 @@ reads-fail told counts stands users pubs generation config most h marks now net 
       target' = k.target';
       told' = told-heard (told a.client) (told b.client) t.x false (k.hears).told';
       sent' = sym (append-nil t.sent);
+      stuck = λ e1. refl;
       behind = heard t;
       takes = takes-open t [] [] (heard t) (settled-more t more) (heard-nothing t);
       open' = heard t;

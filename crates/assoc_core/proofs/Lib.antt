@@ -5,6 +5,7 @@ pub mod Asking
 pub mod Carryings
 pub mod DrainAnswers
 pub mod Drains
+pub mod Owing
 pub mod GrantTurns
 pub mod HeardTurns
 pub mod Hearings
@@ -16,6 +17,7 @@ pub mod Lateness
 pub mod Movements
 pub mod Dating
 pub mod PassLaws
+pub mod Passing
 pub mod Inputs
 pub mod Payload
 pub mod Choosing
@@ -39,3 +41,4 @@ pub mod TalkTurns
 pub mod Talking
 pub mod RelayFinish
 pub mod Courses
+pub mod Waiting

@@ -54,13 +54,13 @@ pub full-taken : {old new : Told} {counts counts' : Counts} {before after : List
 full-taken k h = subst IsFull (sym k.told') h
 
 pub outside-given : {old new : Told} {counts counts' : Counts} {before after pending : List ℕ} {gives ends was shut : Bool} {give : Give} → GivesPart old new counts counts' before after pending gives ends was shut give → SameOutside old new
-outside-given k = record { arrived = ap (λ (z : Told). z.arrived) k.told'; cap = ap (λ (z : Told). z.cap) k.told'; unfailing = ap (λ (z : Told). z.unfailing) k.told' }
+outside-given k = record { arrived = ap (λ (z : Told). z.arrived) k.told'; cap = ap (λ (z : Told). z.cap) k.told'; room = ap (λ (z : Told). z.room) k.told'; unfailing = ap (λ (z : Told). z.unfailing) k.told' }
 
 pub outside-taken : {old new : Told} {counts counts' : Counts} {before after : List ℕ} {reads was ended : Bool} {take : Take} → TakesPart old new counts counts' before after reads was ended take → SameOutside old new
-outside-taken k = record { arrived = ap (λ (z : Told). z.arrived) k.told'; cap = ap (λ (z : Told). z.cap) k.told'; unfailing = ap (λ (z : Told). z.unfailing) k.told' }
+outside-taken k = record { arrived = ap (λ (z : Told). z.arrived) k.told'; cap = ap (λ (z : Told). z.cap) k.told'; room = ap (λ (z : Told). z.room) k.told'; unfailing = ap (λ (z : Told). z.unfailing) k.told' }
 
 pub outside-on : {old mid new : Told} → SameOutside old mid → SameOutside mid new → SameOutside old new
-outside-on h k = record { arrived = k.arrived ∙ h.arrived; cap = k.cap ∙ h.cap; unfailing = k.unfailing ∙ h.unfailing }
+outside-on h k = record { arrived = k.arrived ∙ h.arrived; cap = k.cap ∙ h.cap; room = k.room ∙ h.room; unfailing = k.unfailing ∙ h.unfailing }
 
 -- fewer were sent than are owed
 pub short : (sent rest owed : List ℕ) → sent ++ rest ≡ owed → 0 < length rest → length sent < length owed

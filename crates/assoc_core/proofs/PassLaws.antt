@@ -1,12 +1,13 @@
 -- What the steps of one pass over a relay tell.
-use Rattle.std.proofs.Common.{◌≡◌, ℕ, ◌<◌, ◌⊎◌, inl, inr, Bool, true, false, ◌&&◌, ◌||◌, not, if◌then◌else◌, Option, Some, None, List, [], length, refl, sym, ap, ◌∙◌, is_some}
+use Rattle.std.proofs.Common.{◌≡◌, ℕ, ◌<◌, ◌≤◌, ◌⊎◌, inl, inr, Bool, true, false, ◌&&◌, ◌||◌, not, if◌then◌else◌, Option, Some, None, List, [], length, refl, sym, ap, ◌∙◌, is_some}
 use Rattle.net_ends.specs.Counts.{Counts, Rose}
 use Rattle.net_ends.specs.Told.{Told}
 use Rattle.socks_machine.specs.declared.world.Object.{Object}
 use Rattle.socks_machine.specs.Settle.{is_nothing}
+use Rattle.socks_machine.specs.Taking.{pipe_size}
 use Rattle.assoc_core.specs.declared.carry.Give.{Give}
 use Rattle.assoc_core.specs.declared.carry.Take.{Take}
-use Rattle.assoc_core.specs.Carrying.{TakeEnds, GiveEnds, TakesPart, GivesPart, has_ended, is_read, is_sound, is_idle, is_full, is_unwritten, is_quantum}
+use Rattle.assoc_core.specs.Carrying.{TakeEnds, GiveEnds, TakesPart, GivesPart, has_ended, is_read, is_sound, is_idle, is_full, is_unwritten, is_quantum, is_held, IsHeldBy}
 use Rattle.assoc_core.specs.Turns.{IsIdle, IsFull, StopsReading}
 use Rattle.assoc_core.proofs.RelayEnds.{some-left}
 use Rattle.assoc_core.proofs.RelaySums.{clash}
@@ -18,6 +19,7 @@ ended-by told old new part reads ended Take.Unread h k = cc
 ended-by told old new part reads ended Take.Ended h k = k
 ended-by told old new part reads ended Take.NotYet h k = cc
 ended-by told old new part reads ended Take.Quantum h k = cc
+ended-by told old new part reads ended Take.Held h k = cc
 ended-by told old new part reads ended Take.Failed h k = cc
 
 pub idle-by : (told : Told) (old new : Counts) (part : List ℕ) (reads ended : Bool) (take : Take) → is_idle take ≡ true → TakeEnds told old new part reads ended take
@@ -26,6 +28,7 @@ idle-by told old new part reads ended Take.Unread h k = absurd (cc)
 idle-by told old new part reads ended Take.Ended h k = absurd (cc)
 idle-by told old new part reads ended Take.NotYet h k = (k.1, k.2)
 idle-by told old new part reads ended Take.Quantum h k = absurd (cc)
+idle-by told old new part reads ended Take.Held h k = absurd (cc)
 idle-by told old new part reads ended Take.Failed h k = absurd (cc)
 
 pub unread-by : (told : Told) (old new : Counts) (part : List ℕ) (reads ended : Bool) (take : Take) → is_read take ≡ false → TakeEnds told old new part reads ended take
@@ -34,32 +37,48 @@ unread-by told old new part reads ended Take.Unread h k = absurd (cc)
 unread-by told old new part reads ended Take.Ended h k = absurd (cc)
 unread-by told old new part reads ended Take.NotYet h k = absurd (cc)
 unread-by told old new part reads ended Take.Quantum h k = absurd (cc)
+unread-by told old new part reads ended Take.Held h k = absurd (cc)
 unread-by told old new part reads ended Take.Failed h k = k
 
 or-ends : (ends was : Bool) → ends || was ≡ true → (was ≡ true) ⊎ (ends ≡ true)
 or-ends true was h = inr refl
 or-ends false was h = inl h
 
-pub stops-by : (told : Told) (old new : Counts) (part : List ℕ) (reads was ends ended : Bool) (take : Take) (fault : Option Object) (Unread : Type 0) → TakeEnds told old new part reads ended take
-    → ended ≡ ends || was → (reads ≡ false → is_some fault ≡ true) → (is_read take ≡ false → is_some fault ≡ true) → StopsReading was ends (is_idle take) part fault Unread
-stops-by told old new part reads was ends ended Take.Unread fault Unread h e unread failed = StopsReading.failed (unread h)
-stops-by told old new part reads was ends ended Take.Ended fault Unread h e unread failed = by-end (or-ends ends was (sym e ∙ h))
+pub stops-by : (told : Told) (old new : Counts) (part : List ℕ) (reads was ends ended : Bool) (take : Take) (fault : Option Object) (Filled Unread : Type 0) → TakeEnds told old new part reads ended take
+    → ended ≡ ends || was → (reads ≡ false → is_some fault ≡ true) → (is_read take ≡ false → is_some fault ≡ true) → (is_held take ≡ true → (is_some fault ≡ true) ⊎ Filled)
+    → StopsReading was ends (is_idle take) part fault Filled Unread
+stops-by told old new part reads was ends ended Take.Unread fault Filled Unread h e unread failed held = StopsReading.failed (unread h)
+stops-by told old new part reads was ends ended Take.Ended fault Filled Unread h e unread failed held = by-end (or-ends ends was (sym e ∙ h))
   where
-    by-end : (was ≡ true) ⊎ (ends ≡ true) → StopsReading was ends false part fault Unread
+    by-end : (was ≡ true) ⊎ (ends ≡ true) → StopsReading was ends false part fault Filled Unread
     by-end (inl k) = StopsReading.ended k
     by-end (inr k) = StopsReading.ends' k
-stops-by told old new part reads was ends ended Take.NotYet fault Unread h e unread failed = StopsReading.rested refl
-stops-by told old new part reads was ends ended Take.Quantum fault Unread h e unread failed = StopsReading.took h.1
-stops-by told old new part reads was ends ended Take.Failed fault Unread h e unread failed = StopsReading.failed (failed refl)
+stops-by told old new part reads was ends ended Take.NotYet fault Filled Unread h e unread failed held = StopsReading.rested refl
+stops-by told old new part reads was ends ended Take.Quantum fault Filled Unread h e unread failed held = StopsReading.took h.1
+stops-by told old new part reads was ends ended Take.Held fault Filled Unread h e unread failed held = by-hold (held refl)
+  where
+    by-hold : (is_some fault ≡ true) ⊎ Filled → StopsReading was ends false part fault Filled Unread
+    by-hold (inl k) = StopsReading.failed k
+    by-hold (inr k) = StopsReading.held k
+stops-by told old new part reads was ends ended Take.Failed fault Filled Unread h e unread failed held = StopsReading.failed (failed refl)
 
--- a source that rests has ended or answered NotYet
+-- a source that rests has ended, answered NotYet or is held
 pub source-by : (told : Told) (old new : Counts) (part : List ℕ) (reads ended : Bool) (take : Take) → TakeEnds told old new part reads ended take
-    → reads ≡ true → is_read take ≡ true → is_quantum take ≡ false → ended || is_idle take ≡ true
+    → reads ≡ true → is_read take ≡ true → is_quantum take ≡ false → ended || (is_idle take || is_held take) ≡ true
 source-by told old new part reads ended Take.Unread h r k q = absurd (clash reads r h)
 source-by told old new part reads ended Take.Ended h r k q = ap (λ b. b || false) h
 source-by told old new part reads ended Take.NotYet h r k q = ap (λ b. b || true) h.0
 source-by told old new part reads ended Take.Quantum h r k q = cc
+source-by told old new part reads ended Take.Held h r k q = ap (λ b. b || true) h
 source-by told old new part reads ended Take.Failed h r k q = cc
+
+-- where a source is held, its sink is full, or failed
+pub held-full : (waiting : ℕ) (give : Give) → IsHeldBy waiting give → ((pipe_size ≤ waiting) × (is_full give ≡ true)) ⊎ (is_sound give ≡ false)
+held-full waiting Give.Held h = absurd h
+held-full waiting Give.All h = absurd h
+held-full waiting Give.Full h = inl (h, refl)
+held-full waiting Give.Unwritten h = inr refl
+held-full waiting Give.Unshut h = absurd h
 
 -- a side that has ended was read to its end
 pub end-by : (told : Told) (old new : Counts) (part : List ℕ) (reads ended : Bool) (take : Take) → TakeEnds told old new part reads ended take
@@ -68,6 +87,7 @@ end-by told old new part reads ended Take.Unread h r k = absurd (clash reads r h
 end-by told old new part reads ended Take.Ended h r k = refl
 end-by told old new part reads ended Take.NotYet h r k = absurd (clash ended k h.0)
 end-by told old new part reads ended Take.Quantum h r k = absurd (clash ended k h.0)
+end-by told old new part reads ended Take.Held h r k = absurd (clash ended k h)
 end-by told old new part reads ended Take.Failed h r k = absurd (clash ended k h.0)
 
 -- ---- writes
@@ -154,6 +174,18 @@ pub fault-first : (rc st rt sc : Bool) → rc ≡ false → is_some (first_fault
 fault-first false st rt sc h = refl
 fault-first true st rt sc h = cc
 
+pub fault-unsound-t : (rc st rt sc : Bool) → st ≡ false → is_some (first_fault rc st rt sc) ≡ true
+fault-unsound-t false st rt sc h = refl
+fault-unsound-t true false rt sc h = refl
+fault-unsound-t true true rt sc h = cc
+
+pub fault-unsound-c : (rc st rt sc : Bool) → sc ≡ false → is_some (first_fault rc st rt sc) ≡ true
+fault-unsound-c false st rt sc h = refl
+fault-unsound-c true false rt sc h = refl
+fault-unsound-c true true false sc h = refl
+fault-unsound-c true true true false h = refl
+fault-unsound-c true true true true h = cc
+
 pub sound-written : (give : Give) → is_sound give ≡ true → is_unwritten give ≡ false
 sound-written Give.Held h = refl
 sound-written Give.All h = refl
@@ -175,14 +207,14 @@ pub unread-of : {old new : Told} {counts counts' : Counts} {before after : List 
     → is_read take ≡ false → (ended ≡ false) × (new.unfailing ≡ false) × Rose counts.faults counts'.faults
 unread-of {new = new} {counts = counts} {counts' = counts'} {reads = reads} {ended = ended} {take = take} k h = unread-by new counts counts' k.part reads ended take h k.why
 
-pub stops-of : {old new : Told} {counts counts' : Counts} {before after : List ℕ} {reads was ended : Bool} {take : Take} → (fault : Option Object) (Unread : Type 0)
+pub stops-of : {old new : Told} {counts counts' : Counts} {before after : List ℕ} {reads was ended : Bool} {take : Take} → (fault : Option Object) (Filled Unread : Type 0)
     → (k : TakesPart old new counts counts' before after reads was ended take) → (reads ≡ false → is_some fault ≡ true) → (is_read take ≡ false → is_some fault ≡ true)
-    → StopsReading was k.ends (is_idle take) k.part fault Unread
-stops-of {new = new} {counts = counts} {counts' = counts'} {reads = reads} {was = was} {ended = ended} {take = take} fault Unread k h l =
-    stops-by new counts counts' k.part reads was k.ends ended take fault Unread k.why k.ended' h l
+    → (is_held take ≡ true → (is_some fault ≡ true) ⊎ Filled) → StopsReading was k.ends (is_idle take) k.part fault Filled Unread
+stops-of {new = new} {counts = counts} {counts' = counts'} {reads = reads} {was = was} {ended = ended} {take = take} fault Filled Unread k h l held =
+    stops-by new counts counts' k.part reads was k.ends ended take fault Filled Unread k.why k.ended' h l held
 
 pub source-of : {old new : Told} {counts counts' : Counts} {before after : List ℕ} {reads was ended : Bool} {take : Take} → TakesPart old new counts counts' before after reads was ended take
-    → reads ≡ true → is_read take ≡ true → is_quantum take ≡ false → ended || is_idle take ≡ true
+    → reads ≡ true → is_read take ≡ true → is_quantum take ≡ false → ended || (is_idle take || is_held take) ≡ true
 source-of {new = new} {counts = counts} {counts' = counts'} {reads = reads} {ended = ended} {take = take} k r h q = source-by new counts counts' k.part reads ended take k.why r h q
 
 pub end-of : {old new : Told} {counts counts' : Counts} {before after : List ℕ} {reads was ended : Bool} {take : Take} → TakesPart old new counts counts' before after reads was ended take

@@ -144,7 +144,7 @@ refused-early users pubs x served unbegan direct (Some cause) =
     udp-none : udp ≡ false
     udp-none = not-udp x.decisions (split_in users x) served
 
-refused-late : (basis : Basis) (x : Record) → relay_began basis x ≡ true → (cause : Option Cause) → refusal_of_in (view basis x) x cause ≡ []
+pub refused-late : (basis : Basis) (x : Record) → relay_began basis x ≡ true → (cause : Option Cause) → refusal_of_in (view basis x) x cause ≡ []
 refused-late basis x began None = refl
 refused-late basis x began (Some cause) =
     ap (λ b. if b then [] else (basis.front).refused x.chosen x.c x.decisions (split_of basis x) (proxy_of basis x) cause) began

@@ -29,7 +29,7 @@ use Rattle.connect_core.specs.Reaching.{Reaches as DialReaches, cause_of}
 use Rattle.assoc_core.specs.Reaching.{HasDialled, HasGreeted, IsNewLink, SameDesk, at_of}
 use Rattle.assoc_core.specs.Sending.{Sends, SendEnds, WritesOn, is_full, is_failed, with_failure}
 use Rattle.assoc_core.specs.Stands.{Stands, Holds, HoldsTarget, EndsBehind, GivesFirst}
-use Rattle.assoc_core.specs.Turns.{Turns, SameOutside, SameTarget, IsUnfailing, IsFull, IsThereAnd, context}
+use Rattle.assoc_core.specs.Turns.{Turns, SameOutside, SameTarget, IsUnfailing, TakesNothing, IsFull, IsThereAnd, context}
 use Rattle.assoc_core.proofs.Answering.{all-owed, with_link}
 use Rattle.assoc_core.proofs.AskTurns.{AskEnds, ask-ends, fault_of, no-fault, has-failed}
 use Rattle.assoc_core.proofs.GrantTurns.{last-set}
@@ -98,6 +98,8 @@ refuses-turn {L = L} told counts users pubs generation config most h marks net n
       planned = k.planned;
       kept = k.kept;
       told' = sends'.told' ∙ ap (λ (l : L). told_taken (told l) sends'.bytes) k.client';
+      stuck_c = λ e. sends'.stuck (ap (λ (l : L). (told l).room) k.client' ∙ e);
+      stuck_t = λ e. none-t;
       target' = subst (λ (w : Option L). HoldsTarget told z.state w) (sym (k.target' ∙ no-target)) (subst (λ (r : Record). HoldsTarget told r None) (sym is) (at-behind d (at_of o) ∙ unreached, refl, refl, refl));
       same_target = subst (λ (w : Option L). SameTarget told net a.target w) (sym k.target') (same-target told net a.target);
       fills_c = λ e. ((ends.full' e).0, (ends.full' e).1, subst (λ (l : L). Rose (counts l).idle_writes (counts w.client).idle_writes) k.client' (ends.full' e).2);
@@ -157,6 +159,8 @@ pub record Greets {L : Type 0} (told : L → Told) (counts : L → Counts) (b z 
   pub all_t : (z.state).sent_t ++ rest_t ≡ drop (prelude_of b.state) (b.state).c
   pub failing : (d : Dialling) (local : Endpoint) → FailedWrite d (DialOutcome.CameUp local) rest_c rest_t fault unwritten
   pub told' : told z.client ≡ told_taken (told b.client) y_c
+  pub stuck_c : (told b.client).room ≡ Some 0 → y_c ≡ []
+  pub stuck_t : (told new).room ≡ Some 0 → (z.state).sent_t ≡ []
   pub target' : z.target ≡ Some link
   pub link' : told link ≡ told_taken (told new) (z.state).sent_t
   pub fills_c : full_c ≡ true → (0 < length rest_c) × IsFull (told z.client) × Rose (counts b.client).idle_writes (counts z.client).idle_writes
@@ -186,6 +190,8 @@ greets-turn {L = L} told counts users pubs generation config most h marks net ne
       planned = k.planned;
       kept = k.kept;
       told' = w.told' ∙ ap (λ (l : L). told_taken (told l) y_c) k.client';
+      stuck_c = λ e. w.stuck_c (ap (λ (l : L). (told l).room) k.client' ∙ e);
+      stuck_t = λ e. w.stuck_t (new-takes-nothing (subst (λ (t : Option L). TakesNothing told net t) no-target e));
       target' = subst (λ (t : Option L). HoldsTarget told z.state t) (sym w.target') (subst (λ (r : Record). HoldsTarget told r (Some link)) (sym is)
           (subst (λ (t : Told). ((at : Endpoint) × (reached_at (reached_behind d (Some local)) ≡ Some at)) × Holds t [] (z.state).sent_t false false × EndsBehind t × GivesFirst t) (sym w.link')
           ((local, at-behind d (Some local)), (holds-new (told new) (z.state).sent_t v.fresh).0, (holds-new (told new) (z.state).sent_t v.fresh).1, (holds-new (told new) (z.state).sent_t v.fresh).2)));
@@ -213,10 +219,13 @@ greets-turn {L = L} told counts users pubs generation config most h marks net ne
 
     same-link : (plan : Plan) → net.plan ≡ Some plan → SameOutside plan.link (told link)
     same-link plan e = subst (λ (t : Told). SameOutside plan.link t) (sym w.link')
-        (subst (λ (t : Told). SameOutside plan.link (told_taken t (z.state).sent_t)) (sym (v.planned plan e)) (record { arrived = refl; cap = refl; unfailing = refl }))
+        (subst (λ (t : Told). SameOutside plan.link (told_taken t (z.state).sent_t)) (sym (v.planned plan e)) (record { arrived = refl; cap = refl; room = refl; unfailing = refl }))
 
     new-unfailing : (plan : Plan) × (net.plan ≡ Some plan) × ((plan.link).unfailing ≡ true) → (told new).unfailing ≡ true
     new-unfailing u = ap (λ (t : Told). t.unfailing) (v.planned u.0 u.1) ∙ u.2
+
+    new-takes-nothing : (plan : Plan) × (net.plan ≡ Some plan) × ((plan.link).room ≡ Some 0) → (told new).room ≡ Some 0
+    new-takes-nothing u = ap (λ (t : Told). t.room) (v.planned u.0 u.1) ∙ u.2
 
 -- the write to the client has failed
 pub greets-none : {L : Type 0} (told : L → Told) (counts : L → Counts) (b : Assoc L) (new client : L) (s : Record) (last : Option Cause)
@@ -231,6 +240,8 @@ greets-none {L = L} told counts b new client s last state' unsent sends last' = 
   all_t = ap (λ (w : List ℕ). w ++ drop (prelude_of b.state) (b.state).c) unsent';
   failing = λ d local. (refl, (sends.ends).0);
   told' = sends.told';
+  stuck_c = sends.stuck;
+  stuck_t = λ e. unsent';
   target' = refl;
   link' = (λ i. let t : Told = told new in record t { taken = sym (more-nil t.taken) i }) ∙ (λ i. told_taken (told new) (sym unsent' i));
   fills_c = λ e. absurd (cc);
@@ -261,6 +272,7 @@ has-greeted told counts b client s full outcome state' sends by = record {
   state' = state' ∙ (λ i. let r : Record = b.state in record r { sent_c = sends.after' i });
   target' = refl;
   told' = sends.told';
+  stuck = sends.stuck;
   later = sends.later;
   full' = by sends.rest sends.ends;
 }
@@ -309,6 +321,8 @@ sends-payload {L = L} told counts users pubs generation config most h marks net 
       all_t = ap (λ w. w ++ sends'.rest) sends'.after' ∙ sends'.pending';
       failing = λ d local. target-failed-as d local g.rest sends'.rest failed (λ e. (ends.failed' e).0);
       told' = g.told';
+      stuck_c = g.stuck;
+      stuck_t = λ e. sends'.after' ∙ sends'.stuck e;
       target' = refl;
       link' = sends'.told' ∙ ap (told_taken (told new)) (sym sends'.after');
       fills_c = g.full';

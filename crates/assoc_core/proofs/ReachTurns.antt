@@ -33,7 +33,7 @@ use Rattle.assoc_core.specs.Plain.{IsPlainRecord, HasAsked, HasDecided, Judged, 
 use Rattle.connect_core.specs.Reaching.{cause_of}
 use Rattle.assoc_core.specs.Reaching.{HasDialled, SameDesk, at_of}
 use Rattle.assoc_core.specs.Stands.{IsConnect, GoesDirect, Stands, Holds, HoldsTarget, EndsBehind, GivesFirst}
-use Rattle.assoc_core.specs.Turns.{Turns, StopsReading, SameOutside, SameTarget, DialsAre, LookupsAre, PlanStays, IsOuterOf, IsUnfailing, IsFull, IsThereAnd, links, outer_of}
+use Rattle.assoc_core.specs.Turns.{Turns, StopsReading, SameOutside, SameTarget, DialsAre, LookupsAre, PlanStays, IsOuterOf, IsUnfailing, TakesNothing, IsFull, IsThereAnd, links, outer_of}
 use Rattle.assoc_core.proofs.Answering.{still-left}
 use Rattle.assoc_core.proofs.PlainRecords.{passed_grant, plain-owes-client, plain-owes-target, granted-behind, unreached-behind}
 use Rattle.assoc_core.proofs.Reaching.{Dialling, connecting, dialler, at-behind, ds-behind, reached_behind, basis_of, context_of, before, behind, grant_of, phase-before, same-opening, due_t, plain-behind, payload-none, reach_acts, with_object, ReachSends, reaches-on}
@@ -373,6 +373,8 @@ pub record Reaches {L : Type 0} (told : L → Told) (counts : L → Counts) (d :
   pub planned : (plan : Plan) → net.plan ≡ Some plan → o ≡ plan.outcome
   pub kept : at_of o ≡ None → net'.plan ≡ net.plan
   pub told' : told z.client ≡ told_taken (told a.client) y_c
+  pub stuck_c : (told a.client).room ≡ Some 0 → y_c ≡ []
+  pub stuck_t : TakesNothing told net a.target → (z.state).sent_t ≡ []
   pub target' : HoldsTarget told z.state z.target
   pub same_target : SameTarget told net a.target z.target
   pub fills_c : full_c ≡ true → (0 < length rest_c) × IsFull (told z.client) × Rose (counts a.client).idle_writes (counts z.client).idle_writes
@@ -408,7 +410,7 @@ turns-reached told counts d net net' a z o y_c rest_c rest_t full_c full_t fault
   client_ends = subst EndsBehind (sym h.told') k.client_ends;
   client_first = subst GivesFirst (sym h.told') k.client_first;
   target = subst (λ (r : Record). HoldsTarget told r z.target) h.state' h.target';
-  same_client = subst (λ (w : Told). SameOutside (told a.client) w) (sym h.told') (record { arrived = refl; cap = refl; unfailing = refl });
+  same_client = subst (λ (w : Told). SameOutside (told a.client) w) (sym h.told') (record { arrived = refl; cap = refl; room = refl; unfailing = refl });
   same_target = h.same_target;
   behind = before d;
   taken' = λ worker. refl;
@@ -425,6 +427,8 @@ turns-reached told counts d net net' a z o y_c rest_c rest_t full_c full_t fault
   idle_t = λ e. absurd (cc);
   full_c = λ e. ((h.fills_c e).1, (h.fills_c e).2, short-of (d.sent ++ y_c) rest_c _ owed (h.fills_c e).0);
   full_t = λ e. ((h.fills_t e).1, short-of (z.state).sent_t rest_t _ ((h.writes).all_t ∙ sym (ap (λ (z : Option Endpoint). plain_to_target (prelude_of (before d)) d.c z) (at-behind d (at_of o)))) (h.fills_t e).0);
+  room_c = λ e. ap (λ (z : List ℕ). length z) (h.stuck_c e);
+  room_t = λ e. ap (λ (z : List ℕ). length z) (h.stuck_t e);
   fails_c = h.fails_c;
   unfailing = h.unfailing;
 }

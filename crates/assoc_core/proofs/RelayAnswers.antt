@@ -1,5 +1,5 @@
 -- The answers of a turn in a relay without a proxy.
-use Rattle.std.proofs.Common.{◌≡◌, ℕ, ◌<◌, ◌⊎◌, inl, inr, Bool, true, false, ◌&&◌, ◌||◌, not, if◌then◌else◌, nat_le, Option, Some, None, List, [], refl, sym, ap, subst, ◌∙◌, length}
+use Rattle.std.proofs.Common.{◌≡◌, ℕ, ◌<◌, ◌≤◌, ◌⊎◌, inl, inr, Bool, true, false, ◌&&◌, ◌||◌, not, if◌then◌else◌, nat_le, le-leb, Option, Some, None, List, [], refl, sym, ap, subst, ◌∙◌, length}
 use Rattle.addr_pattern.specs.declared.endpoint.Endpoint.{Endpoint}
 use Rattle.conf_model.specs.declared.config.Config.{Config}
 use Rattle.conf_model.specs.declared.user.User.{User}
@@ -21,24 +21,27 @@ use Rattle.socks_machine.specs.History.{at_close}
 use Rattle.socks_machine.specs.Phase.{is_udp}
 use Rattle.socks_machine.specs.Relaying.{relayed}
 use Rattle.socks_machine.specs.Settle.{is_nothing}
+use Rattle.socks_machine.specs.Owed.{waiting_for_client, waiting_for_target}
 use Rattle.socks_machine.specs.Socks.{socks}
+use Rattle.socks_machine.specs.Taking.{pipe_size}
 use Rattle.socks_machine.specs.Turn.{turn, marked, quantum, fault_cause, is_quiet}
 use Rattle.assoc_core.specs.declared.assoc.Assoc.{Assoc}
 use Rattle.assoc_core.specs.declared.assoc.Ended.{Ended}
 use Rattle.assoc_core.specs.declared.assoc.Next.{Next}
+use Rattle.assoc_core.specs.declared.carry.Give.{Give}
 use Rattle.assoc_core.specs.declared.relay.Pass.{Pass}
-use Rattle.assoc_core.specs.Carrying.{Passes, has_ended, is_read, is_sound, is_idle, is_full, is_unwritten, is_quantum, fault_of, unwritten_of, has_pending, took_quantum}
+use Rattle.assoc_core.specs.Carrying.{Passes, has_ended, is_read, is_sound, is_idle, is_full, is_unwritten, is_quantum, is_held, fault_of, unwritten_of, has_pending, took_quantum}
 use Rattle.assoc_core.specs.Closing.{Closed}
 use Rattle.assoc_core.specs.Plain.{IsPlainRecord, is_login_failed, prelude_of}
 use Rattle.assoc_core.specs.Stands.{HoldsTarget, Stands}
 use Rattle.assoc_core.specs.Turns.{event_of, context, Turns, mark_of}
-use Rattle.assoc_core.proofs.PassLaws.{ended-of, unread-of, source-of, end-of, unsound-of, unwritten-left, sent-of, nothing-of, FaultTells, fault-tells, sound-written}
+use Rattle.assoc_core.proofs.PassLaws.{ended-of, unread-of, source-of, held-full, end-of, unsound-of, unwritten-left, sent-of, nothing-of, FaultTells, fault-tells, sound-written}
 use Rattle.assoc_core.proofs.RelayEnds.{InRelay, InFault, FailsSide, FailsOn, Resting, goes-again, goes-waiting, Failed, fails, fault_acts, both, some-left}
 use Rattle.assoc_core.proofs.Rests.{rests-with}
 use Rattle.assoc_core.proofs.RelayCloses.{closes-with, pending-none, sinks-by, finishes}
 use Rattle.assoc_core.proofs.RelayRecords.{plain-tcp}
 use Rattle.assoc_core.proofs.RelaySums.{clash, Begun, shut-c, shut-t, sums-carried, unfailed-yet}
-use Rattle.assoc_core.proofs.RelayTurns.{RelayTurn, pass_acts, pass_leaves, pass-sums, pass-leaves, relay-turns}
+use Rattle.assoc_core.proofs.RelayTurns.{RelayTurn, pass_acts, pass_leaves, pass-sums, pass-leaves, relay-turns, waits-client, waits-target}
 
 -- ---- the close
 
@@ -80,7 +83,7 @@ apart-by : {L : Type 0} {basis : Basis} (told : L → Told) (counts : L → Coun
     k.passes.takes_c.ends k.passes.takes_t.ends k.passes.gives_c.shuts k.passes.gives_t.shuts
 apart-by told counts a next pass k unshut = record {
   begun = k.begun;
-  sums = pass-sums _ _ _ _ _ _ a.state k.new pass k.passes;
+  sums = pass-sums _ _ _ _ _ _ a.state k.new pass k.at k.begun.reaches k.passes;
   apart = by-shut _ _ (λ c t. unshut (k.passes.gives_c.shut' ∙ c) (k.passes.gives_t.shut' ∙ t));
 }
   where
@@ -93,12 +96,12 @@ apart-by told counts a next pass k unshut = record {
 shut-facts-c : {L : Type 0} {basis : Basis} (told : L → Told) (counts : L → Counts) (a : Assoc L) (next : Next L) (pass : Pass) (k : RelayTurn told counts basis a next pass) → k.new.shut_c ≡ true
     → (k.new.end_t ≡ true) × (k.passes.gives_c.rest ≡ [])
 shut-facts-c told counts a next pass k h =
-    let f = shut-c a.state k.at _ _ _ _ _ _ _ _ _ _ k.begun (pass-sums _ _ _ _ _ _ a.state k.new pass k.passes) (sym k.passes.gives_c.shut' ∙ h) in (k.passes.takes_t.ended' ∙ f.0, f.1)
+    let f = shut-c a.state k.at _ _ _ _ _ _ _ _ _ _ k.begun (pass-sums _ _ _ _ _ _ a.state k.new pass k.at k.begun.reaches k.passes) (sym k.passes.gives_c.shut' ∙ h) in (k.passes.takes_t.ended' ∙ f.0, f.1)
 
 shut-facts-t : {L : Type 0} {basis : Basis} (told : L → Told) (counts : L → Counts) (a : Assoc L) (next : Next L) (pass : Pass) (k : RelayTurn told counts basis a next pass) → k.new.shut_t ≡ true
     → (k.new.end_c ≡ true) × (k.passes.gives_t.rest ≡ [])
 shut-facts-t told counts a next pass k h =
-    let f = shut-t a.state k.at _ _ _ _ _ _ _ _ _ _ k.begun (pass-sums _ _ _ _ _ _ a.state k.new pass k.passes) (sym k.passes.gives_t.shut' ∙ h) in (k.passes.takes_c.ended' ∙ f.0, f.1)
+    let f = shut-t a.state k.at _ _ _ _ _ _ _ _ _ _ k.begun (pass-sums _ _ _ _ _ _ a.state k.new pass k.at k.begun.reaches k.passes) (sym k.passes.gives_t.shut' ∙ h) in (k.passes.takes_c.ended' ∙ f.0, f.1)
 
 unsound-clash : (rest : List ℕ) (ends shut : Bool) → (0 < length rest) ⊎ ((ends ≡ true) × (shut ≡ false)) → rest ≡ [] → shut ≡ true → ⊥
 unsound-clash rest ends shut (inl h) none k = clash (is_nothing rest) (ap is_nothing none) (some-left rest h)
@@ -155,6 +158,11 @@ side true true nothing full h f = refl
 side true false nothing true h f = h
 side true false nothing false h f = absurd (clash false (f refl refl) refl)
 
+or-if : (a b c d : Bool) → a || (b || c) ≡ true → (c ≡ true → d ≡ true) → a || (b || d) ≡ true
+or-if true b c d h f = refl
+or-if false true c d h f = refl
+or-if false false c d h f = f h
+
 pub relay-waits : {L : Type 0} (told : L → Told) (counts : L → Counts) (stands : List Line → List StopBy → Type 0)
     (users : List User) (pubs : List Config) (generation : ℕ) (config : Config) (cap : ℕ) (h : List Line) (marks : List StopBy) (now : ℕ) (net : NetTold)
     (a mid : Assoc L) (pass : Pass) (k : RelayTurn told counts (socks users pubs) a (Next.Wait mid) pass) → fault_of pass ≡ None → unwritten_of pass ≡ false → mid.state ≡ k.new
@@ -181,6 +189,13 @@ relay-waits told counts stands users pubs generation config cap h marks now net 
     reads_t : is_read pass.took_c && is_sound pass.gave_t ≡ true
     reads_t = both _ _ fine.0 fine.1
 
+    left : Record
+    left = pass_leaves told counts a (Next.Wait mid) pass k a.state.cause
+
+    holds_by : (waiting n : ℕ) (give : Give) → waiting ≡ n → is_sound give ≡ true → (pipe_size ≤ n) × (is_full give ≡ true) ⊎ (is_sound give ≡ false) → nat_le pipe_size waiting && is_full give ≡ true
+    holds_by waiting n give is sound (inl f) = both _ _ (le-leb pipe_size waiting (subst (λ z. pipe_size ≤ z) (sym is) f.0)) f.1
+    holds_by waiting n give is sound (inr f) = absurd (clash (is_sound give) sound f)
+
     nothing_c : is_nothing k.passes.gives_c.rest ≡ not (is_full pass.gave_c)
     nothing_c = nothing-of k.passes.gives_c fine.0 (sound-written pass.gave_c fine.3)
 
@@ -188,10 +203,12 @@ relay-waits told counts stands users pubs generation config cap h marks now net 
     nothing_t = nothing-of k.passes.gives_t fine.0 (sound-written pass.gave_t fine.1)
 
     resting : Resting a.state k.passes.gives_c.rest k.passes.gives_t.rest k.passes.takes_c.ends k.passes.takes_t.ends k.passes.gives_c.shuts k.passes.gives_t.shuts
-        (is_idle pass.took_c) (is_idle pass.took_t) (is_full pass.gave_c) (is_full pass.gave_t)
+        (is_idle pass.took_c) (is_idle pass.took_t) (is_full pass.gave_c) (is_full pass.gave_t) (waiting_for_client (socks users pubs) left) (waiting_for_target (socks users pubs) left)
     resting = record {
-      source_c = ap (λ b. b || is_idle pass.took_c) (sym k.passes.takes_c.ended') ∙ source-of k.passes.takes_c refl fine.0 quanta.0;
-      source_t = ap (λ b. b || is_idle pass.took_t) (sym k.passes.takes_t.ended') ∙ source-of k.passes.takes_t reads_t fine.2 quanta.1;
+      source_c = or-if _ (is_idle pass.took_c) (is_held pass.took_c) _ (ap (λ b. b || (is_idle pass.took_c || is_held pass.took_c)) (sym k.passes.takes_c.ended') ∙ source-of k.passes.takes_c refl fine.0 quanta.0)
+          (λ e. holds_by _ _ pass.gave_t (waits-target told counts users pubs a (Next.Wait mid) pass k a.state.cause) fine.1 (held-full _ pass.gave_t (k.passes.held_c e)));
+      source_t = or-if _ (is_idle pass.took_t) (is_held pass.took_t) _ (ap (λ b. b || (is_idle pass.took_t || is_held pass.took_t)) (sym k.passes.takes_t.ended') ∙ source-of k.passes.takes_t reads_t fine.2 quanta.1)
+          (λ e. holds_by _ _ pass.gave_c (waits-client told counts users pubs generation config cap h marks a (Next.Wait mid) pass k a.state.cause (unfailed-yet k.begun)) fine.3 (held-full _ pass.gave_c (k.passes.held_t e)));
       sink_c = sink (is_nothing k.passes.gives_c.rest) (is_full pass.gave_c) nothing_c;
       sink_t = sink (is_nothing k.passes.gives_t.rest) (is_full pass.gave_t) nothing_t;
       side_c = side _ _ _ (is_full pass.gave_c) nothing_c
@@ -359,7 +376,7 @@ pub relay-finishes : {L : Type 0} (told : L → Told) (counts : L → Counts) (s
 relay-finishes told counts stands users pubs generation config cap h marks now net a mid e pass k none written m closed same both_c both_t =
     relay-closes told counts stands users pubs generation config cap h marks now net a mid e pass k None false Cause.Finished refl none written m closed
     (λ worker logged. finishes users pubs generation config cap h marks worker a.state.number now a.state k.at _ _ _ _ _ _ _ _ _ _ (is_idle pass.took_c) (is_idle pass.took_t) (is_full pass.gave_c) (is_full pass.gave_t) logged
-    k.begun (pass-sums _ _ _ _ _ _ a.state k.new pass k.passes) same (sym k.passes.gives_c.shut' ∙ both_c) (sym k.passes.gives_t.shut' ∙ both_t))
+    k.begun (pass-sums _ _ _ _ _ _ a.state k.new pass k.at k.begun.reaches k.passes) same (sym k.passes.gives_c.shut' ∙ both_c) (sym k.passes.gives_t.shut' ∙ both_t))
 
 -- ---- between the code and the turn
 

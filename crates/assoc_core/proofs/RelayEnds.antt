@@ -21,7 +21,7 @@ use Rattle.socks_machine.specs.Phase.{Phase, phase, began, relay_began}
 use Rattle.socks_machine.specs.Relaying.{RelayFacts, Relaying, relayed}
 use Rattle.socks_machine.specs.Settle.{fix, first_cause, is_nothing}
 use Rattle.socks_machine.specs.Socks.{socks}
-use Rattle.socks_machine.specs.Taking.{holds}
+use Rattle.socks_machine.specs.Taking.{holds, pipe_size}
 use Rattle.socks_machine.specs.Turn.{turn, quantum, took_quantum, rests, rests_in, sinks_rest, sources_rest, sides_rest, is_late, fault_fits, fault_cause, may_fail, may_write, has_pending, may_be_shut, reads_in, is_there}
 use Rattle.socks_machine.proofs.RelayLaws.{relaying-reads, alike, began-same, relay-owes-caused}
 use Rattle.socks_machine.proofs.WaitLaws.{again, waits}
@@ -46,11 +46,6 @@ idle-t true true = refl
 idle-t true false = refl
 idle-t false true = refl
 idle-t false false = refl
-
-or-first : (a b c : Bool) → a || b ≡ true → a || (b || c) ≡ true
-or-first true b c h = refl
-or-first false true c h = refl
-or-first false false c h = cc
 
 pub both : (a b : Bool) → a ≡ true → b ≡ true → a && b ≡ true
 both true b h k = k
@@ -124,11 +119,11 @@ goes-again users pubs generation config cap h marks worker number now old at c t
     or-more false true h = refl
     or-more false false h = h
 
--- why it waits: each side has ended or its link answered NotYet, all is sent or its link answered NotYet, and no side is
--- still to be shut
-pub record Resting (old : Record) (rest_c rest_t : List ℕ) (end_c end_t shut_c shut_t idle_c idle_t full_c full_t : Bool) : Type 0 where
-  pub source_c : (end_c || old.end_c) || idle_c ≡ true
-  pub source_t : (end_t || old.end_t) || idle_t ≡ true
+-- why it waits: each side has ended, its link answered NotYet, or its bytes fill a pipe to a link that did; all is sent or its
+-- link answered NotYet; and no side is still to be shut
+pub record Resting (old : Record) (rest_c rest_t : List ℕ) (end_c end_t shut_c shut_t idle_c idle_t full_c full_t : Bool) (waiting_c waiting_t : ℕ) : Type 0 where
+  pub source_c : (end_c || old.end_c) || (idle_c || (nat_le pipe_size waiting_t && full_t)) ≡ true
+  pub source_t : (end_t || old.end_t) || (idle_t || (nat_le pipe_size waiting_c && full_c)) ≡ true
   pub sink_c : is_nothing rest_c || full_c ≡ true
   pub sink_t : is_nothing rest_t || full_t ≡ true
   pub side_c : (end_t || old.end_t) && not (shut_c || old.shut_c) && is_nothing rest_c ≡ false
@@ -138,6 +133,7 @@ pub goes-waiting : (users : List User) (pubs : List Config) (generation : ℕ) (
     (old : Record) (at : Endpoint) (c t part_c rest_c part_t rest_t : List ℕ) (end_c end_t shut_c shut_t idle_c idle_t full_c full_t : Bool)
     → InRelay (socks users pubs) old at c t part_c rest_c part_t rest_t end_c end_t shut_c shut_t → old.since ≡ now
     → nat_le quantum (length c) || nat_le quantum (length t) ≡ false → Resting old rest_c rest_t end_c end_t shut_c shut_t idle_c idle_t full_c full_t
+    (waiting_for_client (socks users pubs) (summed old c t part_c part_t end_c end_t shut_c shut_t old.cause)) (waiting_for_target (socks users pubs) (summed old c t part_c part_t end_c end_t shut_c shut_t old.cause))
     → turn (context users pubs generation config cap h marks) (event_of worker number now (sum_acts c t part_c part_t end_c end_t shut_c shut_t idle_c idle_t full_c full_t) NextMark.Wait) old
     ≡ Some (record { left = summed old c t part_c part_t end_c end_t shut_c shut_t old.cause; h = h; marks = marks })
 goes-waiting users pubs generation config cap h marks worker number now old at c t part_c rest_c part_t rest_t end_c end_t shut_c shut_t idle_c idle_t full_c full_t k same took y =
@@ -175,8 +171,8 @@ goes-waiting users pubs generation config cap h marks worker number now old at c
 
     sources : sources_rest s.basis e x Phase.Relay ≡ true
     sources = both _ _
-        (or-first (end_c || old.end_c) (holds Object.Client (links idle_c idle_t)) _ (ap (λ b. (end_c || old.end_c) || b) (idle-c idle_c idle_t) ∙ y.source_c))
-        (or-first (end_t || old.end_t) (holds Object.Target (links idle_c idle_t)) _ (ap (λ b. (end_t || old.end_t) || b) (idle-t idle_c idle_t) ∙ y.source_t))
+        ((λ i. (end_c || old.end_c) || (idle-c idle_c idle_t i || (nat_le pipe_size waiting_t && idle-t full_c full_t i))) ∙ y.source_c)
+        ((λ i. (end_t || old.end_t) || (idle-t idle_c idle_t i || (nat_le pipe_size waiting_c && idle-c full_c full_t i))) ∙ y.source_t)
 
     sinks : sinks_rest s.basis e x ≡ true
     sinks = both _ _ (ap (λ z. is_nothing z || holds Object.Client (links full_c full_t)) pending_c ∙ (ap (λ b. is_nothing rest_c || b) (idle-c full_c full_t) ∙ y.sink_c))

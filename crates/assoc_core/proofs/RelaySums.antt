@@ -24,7 +24,7 @@ use Rattle.socks_machine.specs.Taking.{some_in}
 use Rattle.socks_machine.specs.View.{proxy_of}
 use Rattle.socks_machine.proofs.RelayLaws.{relay-owes-c, relay-owes-t}
 use Rattle.socks_machine.proofs.TakeLaws.{nothing-in}
-use Rattle.assoc_core.specs.Plain.{IsPlainRecord, HasAsked, opening_owed, is_login_failed, owed_c, owed_t, plain_to_client, plain_to_target, prelude_of}
+use Rattle.assoc_core.specs.Plain.{IsPlainRecord, HasAsked, opening_owed, is_login_failed, owed_c, owed_t, plain_to_client, plain_to_target, prelude_of, replies_by}
 use Rattle.assoc_core.specs.Turns.{Acts, event_of, context}
 use Rattle.assoc_core.proofs.Payload.{opening-stays, prelude-stays, prelude-within, version-stays}
 use Rattle.assoc_core.proofs.PlainRecords.{plain-owes-client, plain-owes-target}
@@ -91,6 +91,11 @@ closed-c c t chosen reaches at cause h = ap (λ z. plain_to_client c t chosen z 
   where
     arranged : (o s t : List ℕ) → o ++ (s ++ (t ++ [])) ≡ (o ++ s) ++ t
     arranged o s t = simp (append-nil, append_assoc)
+
+-- the replies, and then the target's bytes
+pub replies-owe : (c t : List ℕ) (chosen : Option Chosen) (reaches : Option Endpoint) (at : Endpoint) (cause : Option Cause) → reaches ≡ Some at
+    → replies_by c chosen cause reaches ++ t ≡ plain_to_client c t chosen reaches cause
+replies-owe c t chosen reaches at cause h = ap (λ z. replies_by c chosen cause z ++ t) h ∙ sym (closed-c c t chosen reaches at cause h)
 
 closed-more : {basis : Basis} (old : Record) (at : Endpoint) (c t : List ℕ) → Begun basis old at
     → plain_to_client old.c old.t old.chosen (reached_at old.decisions) old.cause ++ t ≡ plain_to_client (old.c ++ c) (old.t ++ t) old.chosen (reached_at old.decisions) old.cause

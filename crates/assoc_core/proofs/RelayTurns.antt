@@ -1,5 +1,5 @@
 -- A turn in a relay without a proxy, whole.
-use Rattle.std.proofs.Common.{◌≡◌, ℕ, ◌-◌, ◌<◌, inl, inr, Bool, true, false, ◌&&◌, ◌||◌, not, if◌then◌else◌, Option, Some, None, List, [], ◌++◌, refl, sym, ap, subst, ◌∙◌, length, drop, length-append, arith, is_some}
+use Rattle.std.proofs.Common.{◌≡◌, ℕ, ◌<◌, ◌≤◌, ◌⊎◌, inl, inr, Bool, true, false, ◌&&◌, ◌||◌, not, Option, Some, List, [], ◌++◌, refl, sym, ap, subst, ◌∙◌, length, drop, length-append, is_some}
 use Rattle.addr_pattern.specs.declared.endpoint.Endpoint.{Endpoint}
 use Rattle.conf_model.specs.declared.config.Config.{Config}
 use Rattle.conf_model.specs.declared.user.User.{User}
@@ -13,34 +13,34 @@ use Rattle.socks_machine.specs.declared.record.Record.{Record}
 use Rattle.socks_machine.specs.declared.world.NextMark.{NextMark}
 use Rattle.socks_machine.specs.declared.world.Object.{Object}
 use Rattle.socks_machine.specs.declared.world.Outer.{Outer}
+use Rattle.socks_machine.specs.declared.world.TurnEvent.{TurnEvent}
 use Rattle.socks_machine.specs.Basis.{Basis}
 use Rattle.socks_machine.specs.Calls.{Context}
-use Rattle.socks_machine.specs.Decisions.{granted}
+use Rattle.socks_machine.specs.Decisions.{granted, reached_at}
 use Rattle.socks_machine.specs.InTurn.{Takes, takings}
-use Rattle.socks_machine.specs.Owed.{owed_to_client, owed_to_target, waiting_for_target, waiting_for_client, replies_in, has_target, refusal_of_in}
-use Rattle.socks_machine.specs.Phase.{Phase, phase, relay_began, relay_began_in, client_payload_in, target_payload_in}
+use Rattle.socks_machine.specs.Owed.{waiting_for_target, waiting_for_client}
+use Rattle.socks_machine.specs.Phase.{Phase, phase, relay_began}
 use Rattle.socks_machine.specs.Relaying.{RelayFacts, relayed}
 use Rattle.socks_machine.specs.Socks.{socks}
 use Rattle.socks_machine.specs.Script.{without_ends}
 use Rattle.socks_machine.specs.Taking.{reads_client, reads_target, pipe_size}
 use Rattle.socks_machine.specs.Turn.{turn}
-use Rattle.socks_machine.specs.View.{view}
 use Rattle.socks_machine.proofs.RelayLaws.{relaying-reads, began-same}
 use Rattle.socks_machine.proofs.TurnStages.{takes-is}
 use Rattle.assoc_core.specs.declared.assoc.Assoc.{Assoc}
 use Rattle.assoc_core.specs.declared.assoc.Next.{Next}
 use Rattle.assoc_core.specs.declared.relay.Pass.{Pass}
-use Rattle.assoc_core.specs.Carrying.{Passes, is_read, is_sound, is_idle, is_full, fault_of, unwritten_of}
-use Rattle.assoc_core.specs.Plain.{IsPlainRecord, is_login_failed, owed_c, owed_t, prelude_of}
+use Rattle.assoc_core.specs.Carrying.{Passes, waiting_of, is_read, is_sound, is_idle, is_full, fault_of, unwritten_of}
+use Rattle.assoc_core.specs.Plain.{IsPlainRecord, is_login_failed, owed_c, owed_t, prelude_of, replies_by}
 use Rattle.assoc_core.specs.Stands.{Holds, HoldsTarget, Stands}
-use Rattle.assoc_core.specs.Turns.{Acts, event_of, context, links, Turns, GoesOn, left_of, mark_of, DialsAre, LookupsAre, PlanStays, IsOuterOf, IsIdle, IsFull, IsThereAnd, IsUnfailing, SameTarget}
+use Rattle.assoc_core.specs.Turns.{Acts, event_of, context, links, Turns, GoesOn, left_of, mark_of, DialsAre, LookupsAre, PlanStays, IsOuterOf, IsIdle, IsFull, Filled, IsThereAnd, IsUnfailing, TakesNothing, SameTarget}
 use Rattle.assoc_core.proofs.LinksHeld.{holds-taken, holds-given, ends-given, first-given, idle-given, full-taken, outside-given, outside-taken, outside-on, short}
-use Rattle.assoc_core.proofs.PassLaws.{ended-of, idle-of, unread-of, stops-of, full-of, unsound-of, sent-of, FaultTells, fault-tells, fault-none, fault-unread, fault-read, fault-first, sound-written}
-use Rattle.assoc_core.proofs.PlainRecords.{plain-owes-client, plain-owes-target}
+use Rattle.assoc_core.proofs.PassLaws.{ended-of, idle-of, unread-of, stops-of, full-of, unsound-of, held-full, FaultTells, fault-tells, fault-none, fault-unread, fault-read, fault-first, fault-unsound-t, fault-unsound-c, sound-written}
 use Rattle.assoc_core.proofs.RelayEnds.{in-phase}
 use Rattle.assoc_core.proofs.RelayRecords.{is-relayed, plain-relay-facts}
-use Rattle.assoc_core.proofs.RelaySums.{clash, Sums, summed, Begun, sum_acts, relays, sent-c, sent-t, sums-carried, all-sent}
+use Rattle.assoc_core.proofs.RelaySums.{clash, Sums, summed, Begun, sum_acts, relays, replies-owe, sent-c, sent-t, sums-carried}
 use Rattle.assoc_core.proofs.Sendings.{rose-before, rose-after}
+use Rattle.assoc_core.proofs.Waiting.{client-waits, target-waits}
 
 -- ---- the sums of a pass
 
@@ -58,12 +58,14 @@ pass-leaves client client' target target' counts counts' old new pass p = p.is �
   shut_t = p.gives_t.shut' i;
 })
 
-pub pass-sums : (client client' target target' : Told) (counts counts' : Counts) (old new : Record) (pass : Pass) → (p : Passes client client' target target' counts counts' (prelude_of old) old new pass)
+pub pass-sums : (client client' target target' : Told) (counts counts' : Counts) (old new : Record) (pass : Pass) (at : Endpoint) → reached_at old.decisions ≡ Some at
+    → (p : Passes client client' target target' counts counts' (prelude_of old) old new pass)
     → Sums old p.takes_c.part p.takes_t.part p.gives_c.part p.gives_c.rest p.gives_t.part p.gives_t.rest p.takes_c.ends p.takes_t.ends p.gives_c.shuts p.gives_t.shuts
-pass-sums client client' target target' counts counts' old new pass p = record {
+pass-sums client client' target target' counts counts' old new pass at reaches p = record {
   may_c = p.takes_c.may;
   may_t = p.takes_t.may;
-  pending_c = p.gives_c.pending' ∙ ap (λ (z : Record). drop (length old.sent_c) (owed_c z)) (pass-leaves client client' target target' counts counts' old new pass p);
+  pending_c = p.gives_c.pending' ∙ ap (drop (length old.sent_c)) ((λ i. replies_by (p.takes_c.after' i) old.chosen old.cause (reached_at old.decisions) ++ p.takes_t.after' i)
+      ∙ replies-owe (old.c ++ p.takes_c.part) (old.t ++ p.takes_t.part) old.chosen (reached_at old.decisions) at old.cause reaches);
   pending_t = p.gives_t.pending' ∙ ap (λ z. drop (length old.sent_t) (drop (prelude_of old) z)) p.takes_c.after';
   once_c = p.gives_c.once;
   once_t = p.gives_t.once;
@@ -97,24 +99,6 @@ sums-unshut old c t part_c rest_c part_t rest_t end_c end_t shut_c shut_t k = re
   due_c = λ e. absurd (cc);
   due_t = λ e. absurd (cc);
 }
-
--- ---- what waits
-
-sent-waits : (sent r p q : List ℕ) → sent ≡ (r ++ p) ++ q → length p - (length sent - length r) < pipe_size
-sent-waits sent r p q h = omega (arith, ap length h, length-append (r ++ p) q, length-append r p)
-
--- behind a relay's turn that has sent all to a side, nothing waits for it
-waits-client : (basis : Basis) (x : Record) → relay_began basis x ≡ true → x.sent_c ≡ owed_to_client basis x → waiting_for_client basis x < pipe_size
-waits-client basis x began sent = sent-waits x.sent_c (replies_in (view basis x) x) (target_payload_in (view basis x) x) (refusal_of_in (view basis x) x x.cause)
-    (sent ∙ ap (λ b. replies_in (view basis x) x ++ (if b then target_payload_in (view basis x) x else []) ++ refusal_of_in (view basis x) x x.cause) began)
-
-waits-target : (basis : Basis) (x : Record) → relay_began basis x ≡ true → has_target x ≡ true → x.sent_t ≡ owed_to_target basis x → waiting_for_target basis x < pipe_size
-waits-target basis x began there sent = by-said x.sent_t (view basis x).said (client_payload_in (view basis x) x)
-    (sent ∙ (ap (λ b. elim b [ true ↦ (view basis x).said ++ (if relay_began_in (view basis x) x then client_payload_in (view basis x) x else []) | false ↦ [] ]) there
-    ∙ ap (λ b. (view basis x).said ++ (if b then client_payload_in (view basis x) x else [])) began))
-  where
-    by-said : (sent r p : List ℕ) → sent ≡ r ++ p → length p - (length sent - length r) < pipe_size
-    by-said sent r p h = omega (arith, ap length h, length-append r p)
 
 -- ---- a call of the desk, or none
 
@@ -168,11 +152,36 @@ abbrev pub pass_leaves : {L : Type 0} {basis : Basis} (told : L → Told) (count
 pass_leaves told counts a next pass k cause = let p = k.passes in
     summed a.state p.takes_c.part p.takes_t.part p.gives_c.part p.gives_t.part p.takes_c.ends p.takes_t.ends p.gives_c.shuts p.gives_t.shuts cause
 
-no-full : (c t : Bool) → links c t ≡ [] → (c ≡ false) × (t ≡ false)
-no-full true true h = absurd (cc)
-no-full true false h = absurd (cc)
-no-full false true h = absurd (cc)
-no-full false false h = (refl, refl)
+-- what waits behind it for the target, and for the client
+pub waits-target : {L : Type 0} (told : L → Told) (counts : L → Counts) (users : List User) (pubs : List Config) (a : Assoc L) (next : Next L) (pass : Pass) (k : RelayTurn told counts (socks users pubs) a next pass) (cause : Option Cause)
+    → waiting_for_target (socks users pubs) (pass_leaves told counts a next pass k cause) ≡ waiting_of [] (prelude_of a.state) k.new.c (length k.new.sent_t)
+waits-target told counts users pubs a next pass k cause = let p = k.passes in
+    target-waits users pubs a.state k.at p.takes_c.part p.takes_t.part p.gives_c.part p.gives_t.part p.takes_c.ends p.takes_t.ends p.gives_c.shuts p.gives_t.shuts cause k.begun
+    ∙ (λ i. waiting_of [] (prelude_of a.state) (sym p.takes_c.after' i) (length (sym p.gives_t.after' i)))
+
+pub waits-client : {L : Type 0} (told : L → Told) (counts : L → Counts) (users : List User) (pubs : List Config) (generation : ℕ) (config : Config) (cap : ℕ) (h : List Line) (marks : List StopBy)
+    (a : Assoc L) (next : Next L) (pass : Pass) (k : RelayTurn told counts (socks users pubs) a next pass) (cause : Option Cause) → is_login_failed cause ≡ false
+    → waiting_for_client (socks users pubs) (pass_leaves told counts a next pass k cause)
+    ≡ waiting_of (replies_by k.new.c a.state.chosen a.state.cause (reached_at a.state.decisions)) 0 k.new.t (length k.new.sent_c)
+waits-client told counts users pubs generation config cap h marks a next pass k cause sound =
+    client-waits users pubs a.state k.at p.takes_c.part p.takes_t.part p.gives_c.part p.gives_t.part p.takes_c.ends p.takes_t.ends false false cause k.begun sound plain began
+    ∙ (λ i. waiting_of (replies_by (sym p.takes_c.after' i) a.state.chosen a.state.cause (reached_at a.state.decisions)) 0 (sym p.takes_t.after' i) (length (sym p.gives_c.after' i)))
+  where
+    p : Passes (told a.client) (told (left_of next).client) (told k.link) (told k.link') (counts a.client) (counts (left_of next).client) (prelude_of a.state) a.state k.new pass
+    p = k.passes
+
+    s : Context
+    s = context users pubs generation config cap h marks
+
+    facts : RelayFacts s a.state
+    facts = plain-relay-facts users pubs generation config cap h marks a.state k.at k.begun.plain k.begun.reaches k.begun.uncaused k.begun.direct
+
+    plain : IsPlainRecord users (summed a.state p.takes_c.part p.takes_t.part p.gives_c.part p.gives_t.part p.takes_c.ends p.takes_t.ends false false cause)
+    plain = sums-carried a.state k.at _ _ _ _ _ _ _ _ _ _ cause sound k.begun (sums-unshut a.state _ _ _ _ _ _ _ _ _ _ (pass-sums _ _ _ _ _ _ a.state k.new pass k.at k.begun.reaches p))
+        (is-relayed users a.state k.at k.begun.plain k.begun.reaches).dialled.apart
+
+    began : relay_began (socks users pubs) (summed a.state p.takes_c.part p.takes_t.part p.gives_c.part p.gives_t.part p.takes_c.ends p.takes_t.ends false false cause) ≡ true
+    began = began-same s a.state p.takes_c.part p.takes_t.part (p.takes_c.ends || a.state.end_c) (p.takes_t.ends || a.state.end_t) (granted a.state.decisions) facts ∙ facts.began
 
 pub relay-turns : {L : Type 0} (told : L → Told) (counts : L → Counts) (stands : List Line → List StopBy → Type 0)
     (users : List User) (pubs : List Config) (generation : ℕ) (config : Config) (cap : ℕ) (h : List Line) (marks : List StopBy) (now : ℕ) (net : NetTold)
@@ -222,16 +231,18 @@ relay-turns {L} told counts stands users pubs generation config cap h marks now 
   lookup_plan = refl;
   plan' = desk-plan net outer _ desk;
   outer' = desk-outer net _ outer desk;
-  stops_c = λ worker. stops-of fault _ p.takes_c (λ e. absurd (cc)) (λ e. ap is_some (sym is_fault) ∙ fault-first (is_read pass.took_c) (is_sound pass.gave_t) (is_read pass.took_t) (is_sound pass.gave_c) e);
-  stops_t = λ worker. stops-of fault _ p.takes_t (λ e. ap is_some (sym is_fault) ∙ fault-unread (is_read pass.took_c) (is_sound pass.gave_t) (is_read pass.took_t) (is_sound pass.gave_c) e)
-      (λ e. ap is_some (sym is_fault) ∙ fault-read (is_read pass.took_c) (is_sound pass.gave_t) (is_read pass.took_t) (is_sound pass.gave_c) e);
+  stops_c = λ worker. stops-of fault _ _ p.takes_c (λ e. absurd (cc)) (λ e. ap is_some (sym is_fault) ∙ fault-first (is_read pass.took_c) (is_sound pass.gave_t) (is_read pass.took_t) (is_sound pass.gave_c) e)
+      (λ e. holds_c worker (held-full _ pass.gave_t (p.held_c e)));
+  stops_t = λ worker. stops-of fault _ _ p.takes_t (λ e. ap is_some (sym is_fault) ∙ fault-unread (is_read pass.took_c) (is_sound pass.gave_t) (is_read pass.took_t) (is_sound pass.gave_c) e)
+      (λ e. ap is_some (sym is_fault) ∙ fault-read (is_read pass.took_c) (is_sound pass.gave_t) (is_read pass.took_t) (is_sound pass.gave_c) e)
+      (λ e. holds_t worker (held-full _ pass.gave_c (p.held_t e)));
   reads_end_c = λ worker e. record {
     unended = p.takes_c.may.end e;
     below = p.takes_c.below e;
     behind = relayed a.state p.takes_c.part p.takes_t.part false false;
     taken' = takes-is s.basis generation config.methods (without_ends (event_of worker a.state.number now acts (mark_of next))) a.state _ (takes false false read_none);
     reads' = ap (reads_client s.basis (links acts.idle_c acts.idle_t) (links acts.full_c acts.full_t) (relayed a.state p.takes_c.part p.takes_t.part false false)) (phase-of false false) ∙ ap not (p.takes_c.may.end e);
-    room = λ relay' sound full. waits-target s.basis left began facts.there (sent_all_t sound (no-full (is_full pass.gave_c) (is_full pass.gave_t) full).1);
+    room = λ relays'. subst (λ n. n < pipe_size) (sym waits_t) (p.room_c e);
   };
   reads_end_t = λ worker e. record {
     unended = p.takes_t.may.end e;
@@ -239,13 +250,15 @@ relay-turns {L} told counts stands users pubs generation config cap h marks now 
     behind = relayed a.state p.takes_c.part p.takes_t.part false false;
     taken' = takes-is s.basis generation config.methods (without_ends (event_of worker a.state.number now acts (mark_of next))) a.state _ (takes false false read_none);
     reads' = ap (reads_target (relayed a.state p.takes_c.part p.takes_t.part false false)) (phase-of false false) ∙ ap not (p.takes_t.may.end e);
-    room = λ relay' sound full. waits-client s.basis left began (sent_all_c sound (no-full (is_full pass.gave_c) (is_full pass.gave_t) full).0);
+    room = λ relays'. subst (λ n. n < pipe_size) (sym waits_c) (p.room_t e);
   };
   idle_c = λ e. let f = idle-of p.takes_c e in (idle-given p.gives_c f.0, rose-after _ _ _ f.1 p.gives_c.later.idle_reads);
   idle_t = λ e. subst (λ (z : Option L). IsThereAnd z (λ link. IsIdle (told link))) (sym k.target') (idle-of p.takes_t e).0;
   full_c = λ e. let f = full-of p.gives_c e in (f.1, rose-before _ _ _ p.takes_c.later.idle_writes f.2, short _ p.gives_c.rest _ owes_c f.0);
   full_t = λ e. let f = full-of p.gives_t e in
       (subst (λ (z : Option L). IsThereAnd z (λ link. IsFull (told link))) (sym k.target') (full-taken p.takes_t f.1), short _ p.gives_t.rest _ owes_t f.0);
+  room_c = λ e. ap (λ (z : List ℕ). length z) (p.gives_c.stuck ((outside-taken p.takes_c).room ∙ e));
+  room_t = λ e. ap (λ (z : List ℕ). length z) (p.gives_t.stuck (subst (λ (z : Option L). TakesNothing told net z) k.target e));
   fails_c = λ e. client-fails (subst (λ (z : Option Object). FaultTells z (is_read pass.took_c) (is_sound pass.gave_t) (is_read pass.took_t) (is_sound pass.gave_c)) e tells);
   unfailing = λ fine fine_t. (sym is_fault ∙ fault-none _ _ _ _ (read_fine_c fine) (sound_fine_t fine_t) (read_fine_t fine_t) (sound_fine_c fine), sym is_unwritten' ∙ both-false _ _ (sound-written pass.gave_t (sound_fine_t fine_t)) (sound-written pass.gave_c (sound_fine_c fine)));
 }
@@ -269,7 +282,7 @@ relay-turns {L} told counts stands users pubs generation config cap h marks now 
     target = subst (λ (z : Option L). HoldsTarget told a.state z) k.target k.stands.target
 
     sums : Sums a.state p.takes_c.part p.takes_t.part p.gives_c.part p.gives_c.rest p.gives_t.part p.gives_t.rest p.takes_c.ends p.takes_t.ends p.gives_c.shuts p.gives_t.shuts
-    sums = pass-sums _ _ _ _ _ _ a.state k.new pass p
+    sums = pass-sums _ _ _ _ _ _ a.state k.new pass k.at k.begun.reaches p
 
     read_both : Sums a.state p.takes_c.part p.takes_t.part p.gives_c.part p.gives_c.rest p.gives_t.part p.gives_t.rest p.takes_c.ends p.takes_t.ends false false
     read_both = sums-unshut a.state _ _ _ _ _ _ _ _ _ _ sums
@@ -279,9 +292,6 @@ relay-turns {L} told counts stands users pubs generation config cap h marks now 
 
     apart : a.state.shut_c && a.state.shut_t ≡ false
     apart = (is-relayed users a.state k.at k.begun.plain k.begun.reaches).dialled.apart
-
-    facts : RelayFacts s a.state
-    facts = plain-relay-facts users pubs generation config cap h marks a.state k.at k.begun.plain k.begun.reaches k.begun.uncaused k.begun.direct
 
     takes : (end_c end_t : Bool) → Sums a.state p.takes_c.part p.takes_t.part p.gives_c.part p.gives_c.rest p.gives_t.part p.gives_t.rest end_c end_t false false
         → Takes s.basis generation config.methods
@@ -293,30 +303,45 @@ relay-turns {L} told counts stands users pubs generation config cap h marks now 
     phase-of : (end_c end_t : Bool) → phase s.basis (relayed a.state p.takes_c.part p.takes_t.part end_c end_t) ≡ Phase.Relay
     phase-of end_c end_t = in-phase users pubs generation config cap h marks a.state k.at p.takes_c.part p.takes_t.part (end_c || a.state.end_c) (end_t || a.state.end_t) k.begun
 
-    began : relay_began s.basis left ≡ true
-    began = began-same s a.state p.takes_c.part p.takes_t.part (p.takes_c.ends || a.state.end_c) (p.takes_t.ends || a.state.end_t) (granted a.state.decisions) facts ∙ facts.began
-
     owes_c : (a.state.sent_c ++ p.gives_c.part) ++ p.gives_c.rest ≡ owed_c left
     owes_c = sent-c a.state k.at _ _ _ _ _ _ _ _ _ _ cause sound' k.begun sums
 
     owes_t : (a.state.sent_t ++ p.gives_t.part) ++ p.gives_t.rest ≡ owed_t left
     owes_t = sent-t a.state k.at _ _ _ _ _ _ _ _ _ _ cause k.begun sums
 
-    plain : IsPlainRecord users (summed a.state p.takes_c.part p.takes_t.part p.gives_c.part p.gives_t.part p.takes_c.ends p.takes_t.ends false false cause)
-    plain = sums-carried a.state k.at _ _ _ _ _ _ _ _ _ _ cause sound' k.begun read_both apart
-
     tells : FaultTells fault (is_read pass.took_c) (is_sound pass.gave_t) (is_read pass.took_t) (is_sound pass.gave_c)
     tells = subst (λ (z : Option Object). FaultTells z (is_read pass.took_c) (is_sound pass.gave_t) (is_read pass.took_t) (is_sound pass.gave_c)) is_fault
         (fault-tells (is_read pass.took_c) (is_sound pass.gave_t) (is_read pass.took_t) (is_sound pass.gave_c))
 
-    all-read : fault ≡ None → (is_read pass.took_c ≡ true) × (is_sound pass.gave_t ≡ true) × (is_read pass.took_t ≡ true) × (is_sound pass.gave_c ≡ true)
-    all-read e = subst (λ (z : Option Object). FaultTells z (is_read pass.took_c) (is_sound pass.gave_t) (is_read pass.took_t) (is_sound pass.gave_c)) e tells
+    -- what waits for the target, and for the client
+    waits_t : waiting_for_target s.basis left ≡ waiting_of [] (prelude_of a.state) k.new.c (length k.new.sent_t)
+    waits_t = waits-target told counts users pubs a next pass k cause
 
-    sent_all_c : fault ≡ None → is_full pass.gave_c ≡ false → left.sent_c ≡ owed_to_client s.basis left
-    sent_all_c sound full = let f = all-read sound in all-sent _ p.gives_c.rest _ owes_c (sent-of p.gives_c f.0 f.3 full).0 ∙ sym (plain-owes-client users pubs _ plain k.begun.direct)
+    waits_c : waiting_for_client s.basis left ≡ waiting_of (replies_by k.new.c a.state.chosen a.state.cause (reached_at a.state.decisions)) 0 k.new.t (length k.new.sent_c)
+    waits_c = waits-client told counts users pubs generation config cap h marks a next pass k cause sound'
 
-    sent_all_t : fault ≡ None → is_full pass.gave_t ≡ false → left.sent_t ≡ owed_to_target s.basis left
-    sent_all_t sound full = let f = all-read sound in all-sent _ p.gives_t.rest _ owes_t (sent-of p.gives_t f.0 f.1 full).0 ∙ sym (plain-owes-target users pubs _ plain k.begun.direct)
+    open_acts : ℕ → TurnEvent
+    open_acts worker = event_of worker a.state.number now acts (mark_of next)
+
+    holds_c : (worker : ℕ) → (pipe_size ≤ waiting_of [] (prelude_of a.state) k.new.c (length k.new.sent_t)) × (is_full pass.gave_t ≡ true) ⊎ (is_sound pass.gave_t ≡ false)
+        → (is_some fault ≡ true) ⊎ Filled s a.state left (open_acts worker) waiting_for_target
+    holds_c worker (inl f) = inr (record {
+      behind = relayed a.state p.takes_c.part p.takes_t.part false false;
+      taken' = takes-is s.basis generation config.methods (without_ends (open_acts worker)) a.state _ (takes false false read_none);
+      relays = phase-of false false;
+      waits = subst (λ n. pipe_size ≤ n) (sym waits_t) f.0;
+    })
+    holds_c worker (inr e) = inl (ap is_some (sym is_fault) ∙ fault-unsound-t (is_read pass.took_c) (is_sound pass.gave_t) (is_read pass.took_t) (is_sound pass.gave_c) e)
+
+    holds_t : (worker : ℕ) → (pipe_size ≤ waiting_of (replies_by k.new.c a.state.chosen a.state.cause (reached_at a.state.decisions)) 0 k.new.t (length k.new.sent_c)) × (is_full pass.gave_c ≡ true) ⊎ (is_sound pass.gave_c ≡ false)
+        → (is_some fault ≡ true) ⊎ Filled s a.state left (open_acts worker) waiting_for_client
+    holds_t worker (inl f) = inr (record {
+      behind = relayed a.state p.takes_c.part p.takes_t.part false false;
+      taken' = takes-is s.basis generation config.methods (without_ends (open_acts worker)) a.state _ (takes false false read_none);
+      relays = phase-of false false;
+      waits = subst (λ n. pipe_size ≤ n) (sym waits_c) f.0;
+    })
+    holds_t worker (inr e) = inl (ap is_some (sym is_fault) ∙ fault-unsound-c (is_read pass.took_c) (is_sound pass.gave_t) (is_read pass.took_t) (is_sound pass.gave_c) e)
 
     client-fails : FaultTells (Some Object.Client) (is_read pass.took_c) (is_sound pass.gave_t) (is_read pass.took_t) (is_sound pass.gave_c)
         → Rose (counts a.client).faults (counts (left_of next).client).faults

@@ -88,11 +88,12 @@ pub record ClosesTalk {L : Type 0} (told : L → Told) (counts : L → Counts) (
   pub takes_open : Takes (basis_of t) t.generation (t.config).methods (heard_takings t false (links idle false) (links false false)) (before t) open'
   pub uncalling : is_calling (phase (basis_of t) behind) None ≡ false
   pub unread_t : reads_target open' (phase (basis_of t) open') ≡ false
-  pub stops_c : StopsReading false ends idle t.x fault (reads_client (basis_of t) (links idle false) (links false false) open' (phase (basis_of t) open') ≡ false)
+  pub stops_c : StopsReading false ends idle t.x fault ⊥ (reads_client (basis_of t) (links idle false) (links false false) open' (phase (basis_of t) open') ≡ false)
   pub talks : ends ≡ true → phase (basis_of t) open' ≡ Phase.Talk
   pub short : ends ≡ true → length t.x < quantum
   pub faults : with_fault fault unwritten behind ≡ Some (caused t t.sent ends (Some cause))
   pub fits : fault_fits (basis_of t) fault unwritten behind ≡ true
+  pub stuck : (told a.client).room ≡ Some 0 → y ≡ []
   pub rest : List ℕ
   pub owed' : sent ++ rest ≡ owed_to_client (basis_of t) (caused t t.sent ends (Some cause))
   pub due : (nothing_pending (basis_of t) (caused t sent ends (Some cause)) ≡ true) ⊎ ((unwritten ≡ true) ⊎ (is_quiet (Some cause) ≡ true))
@@ -124,6 +125,7 @@ turns-closed told counts stands t net a b e y sent ends idle fault unwritten cau
       since' = refl;
       number' = refl;
       told' = ap told closed.client ∙ h.told';
+      stuck = h.stuck;
       target' = closed.target ∙ h.target';
       at_end = λ e1. subst (λ (z : _). IsAtEnd (told z)) (sym closed.client) (h.at_end e1);
       first = subst (λ (z : _). GivesFirst (told z)) (sym closed.client) h.first;

@@ -118,6 +118,7 @@ pub record Talked {L : Type 0} (told : L → Told) (counts : L → Counts) (stan
   pub since' : (result.left).since ≡ (t.party).since
   pub number' : (result.left).number ≡ (t.party).number
   pub told' : told (left_of next).client ≡ heard_told (told a.client) t.x y ends
+  pub stuck : (told a.client).room ≡ Some 0 → y ≡ []
   pub target' : (left_of next).target ≡ a.target
   pub at_end : ends ≡ true → IsAtEnd (told (left_of next).client)
   pub first : GivesFirst (told (left_of next).client)
@@ -126,7 +127,7 @@ pub record Talked {L : Type 0} (told : L → Told) (counts : L → Counts) (stan
   pub open' : Record
   pub takes_open : Takes (spoken_to t) t.generation (t.config).methods (spoken_takings t false (links idle false) (links full false)) (unspoken t) open'
   pub unread_t : reads_target open' (phase (spoken_to t) open') ≡ false
-  pub stops_c : StopsReading false ends idle t.x fault (reads_client (spoken_to t) (links idle false) (links full false) open' (phase (spoken_to t) open') ≡ false)
+  pub stops_c : StopsReading false ends idle t.x fault ⊥ (reads_client (spoken_to t) (links idle false) (links full false) open' (phase (spoken_to t) open') ≡ false)
   pub talks : ends ≡ true → phase (spoken_to t) open' ≡ Phase.Talk
   pub short : ends ≡ true → length t.x < quantum
   pub idle_c : idle ≡ true → IsIdle (told (left_of next).client) × Rose (counts a.client).idle_reads (counts (left_of next).client).idle_reads
@@ -135,13 +136,14 @@ pub record Talked {L : Type 0} (told : L → Told) (counts : L → Counts) (stan
   pub fails_c : fault ≡ Some Object.Client → Rose (counts a.client).faults (counts (left_of next).client).faults
   pub unfailing : (told a.client).unfailing ≡ true → (fault ≡ None) × (unwritten ≡ false)
 
-pub stops-as : (was ends idle : Bool) (part : List ℕ) (fault : Option Object) (P Q : Type 0) → (P → Q) → StopsReading was ends idle part fault P → StopsReading was ends idle part fault Q
-stops-as was ends idle part fault P Q f (StopsReading.ended h) = StopsReading.ended h
-stops-as was ends idle part fault P Q f (StopsReading.ends' h) = StopsReading.ends' h
-stops-as was ends idle part fault P Q f (StopsReading.rested h) = StopsReading.rested h
-stops-as was ends idle part fault P Q f (StopsReading.took h) = StopsReading.took h
-stops-as was ends idle part fault P Q f (StopsReading.failed h) = StopsReading.failed h
-stops-as was ends idle part fault P Q f (StopsReading.unread h) = StopsReading.unread (f h)
+pub stops-as : (was ends idle : Bool) (part : List ℕ) (fault : Option Object) (F G P Q : Type 0) → (F → G) → (P → Q) → StopsReading was ends idle part fault F P → StopsReading was ends idle part fault G Q
+stops-as was ends idle part fault F G P Q f g (StopsReading.ended h) = StopsReading.ended h
+stops-as was ends idle part fault F G P Q f g (StopsReading.ends' h) = StopsReading.ends' h
+stops-as was ends idle part fault F G P Q f g (StopsReading.rested h) = StopsReading.rested h
+stops-as was ends idle part fault F G P Q f g (StopsReading.took h) = StopsReading.took h
+stops-as was ends idle part fault F G P Q f g (StopsReading.failed h) = StopsReading.failed h
+stops-as was ends idle part fault F G P Q f g (StopsReading.held h) = StopsReading.held (f h)
+stops-as was ends idle part fault F G P Q f g (StopsReading.unread h) = StopsReading.unread (g h)
 
 ends-heard : (told : Told) (ends : Bool) → told.ended ≡ ends → (ends ≡ true → IsAtEnd told) → EndsBehind told
 ends-heard told ends is at_end arrival given e1 e2 ended = at_end (sym is ∙ ended) arrival given e1 e2
@@ -171,7 +173,7 @@ turns-called told counts stands t now net net' a next y ends outer idle full fau
   client_ends = ends-heard (told (left_of next).client) ends (client'.ended' ∙ h.end_c') h.at_end;
   client_first = h.first;
   target = subst (λ (o : Option _). HoldsTarget told (h.result).left o) (sym h.target') (target-same told (unspoken t) (h.result).left a.target h.side k.target);
-  same_client = subst (λ (z : Told). SameOutside (told a.client) z) (sym h.told') (record { arrived = refl; cap = refl; unfailing = refl });
+  same_client = subst (λ (z : Told). SameOutside (told a.client) z) (sym h.told') (record { arrived = refl; cap = refl; room = refl; unfailing = refl });
   same_target = subst (λ (o : Option _). SameTarget told net a.target o) (sym h.target') (same-target told net a.target);
   behind = h.behind;
   taken' = λ worker. takes-is (spoken_to t) t.generation (t.config).methods (speak_event t worker now acts' (mark_of next)) (unspoken t) h.behind h.takes;
@@ -180,7 +182,7 @@ turns-called told counts stands t now net net' a next y ends outer idle full fau
   lookup_plan = calls.lookup_plan;
   plan' = calls.plan';
   outer' = calls.outer';
-  stops_c = λ worker. stops-as false ends idle t.x fault _ _ (λ unread. record {
+  stops_c = λ worker. stops-as false ends idle t.x fault _ _ _ _ (λ none. absurd none) (λ unread. record {
     behind = h.open';
     taken' = takes-is (spoken_to t) t.generation (t.config).methods (speak_event t worker now open_acts (mark_of next)) (unspoken t) h.open' h.takes_open;
     unread' = unread;
@@ -196,13 +198,15 @@ turns-called told counts stands t now net net' a next y ends outer idle full fau
     behind = h.open';
     taken' = takes-is (spoken_to t) t.generation (t.config).methods (speak_event t worker now open_acts (mark_of next)) (unspoken t) h.open' h.takes_open;
     reads' = ap (reads_client (spoken_to t) (links idle false) (links full false) h.open') (h.talks e);
-    room = λ relays e1 e2. absurd (not-relay (sym (h.talks e) ∙ relays));
+    room = λ relays. absurd (not-relay (sym (h.talks e) ∙ relays));
   };
   reads_end_t = λ worker e. absurd (cc);
   idle_c = h.idle_c;
   idle_t = λ e. absurd (cc);
   full_c = h.full_c;
   full_t = λ e. absurd (cc);
+  room_c = λ e. ap (λ (z : List ℕ). length z) (h.stuck e);
+  room_t = λ e. refl;
   fails_c = h.fails_c;
   unfailing = λ e1 e2. h.unfailing e1;
 }

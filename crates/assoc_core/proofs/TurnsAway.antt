@@ -94,6 +94,7 @@ pub record Away {L : Type 0} (told : L → Told) (counts : L → Counts) (t : He
   pub rest : List ℕ
   pub after' : s.sent_c ≡ t.sent ++ y
   pub told' : told client ≡ heard_told (told a.client) t.x y false
+  pub stuck : (told a.client).room ≡ Some 0 → y ≡ []
   pub all : s.sent_c ++ rest ≡ owes_now t (Some cause)
   pub ends : SendEnds (told client) (counts b.client) (counts client) rest outcome
 
@@ -110,6 +111,7 @@ away told counts users pubs generation config most h marks a b client s cause ou
   rest = sends'.rest;
   after' = sends'.after';
   told' = told-sent (told a.client) (told b.client) (told client) t.x sends'.bytes false (k.hears).told' sends'.told';
+  stuck = λ e. sends'.stuck (ap (λ (z : Told). z.room) (k.hears).told' ∙ e);
   all = ap (λ z. z ++ sends'.rest) sends'.after' ∙ all-owed t.sent sends'.bytes sends'.rest (owes_now t (Some cause)) (first-sent t (Some cause) fits) sends'.pending';
   ends = sends'.ends;
 }
@@ -185,6 +187,7 @@ turns-away {L = L} told counts stands users pubs generation config most h marks 
           target' = k.target';
           told' = w.told';
           sent' = w.after';
+          stuck = w.stuck;
           behind = refused t cause;
           takes = takes-refused t false cause w.refuses;
           open' = refused t cause;
@@ -213,6 +216,7 @@ turns-away {L = L} told counts stands users pubs generation config most h marks 
           target' = k.target';
           told' = w.told';
           sent' = w.after';
+          stuck = w.stuck;
           behind = refused t cause;
           takes = takes-refused t false cause w.refuses;
           open' = refused t cause;
@@ -279,6 +283,7 @@ waits-away told counts stands users pubs generation config most h marks now net 
       direct' = record { direct = refl; known = tt; connects = refl };
       c' = refl;
       sent' = w.after';
+      stuck = w.stuck;
       end_c' = refl;
       shut_c' = refl;
       side = record { at = refl; t = refl; sent_t = refl; end_t = refl; shut_t = refl };

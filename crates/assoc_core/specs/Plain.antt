@@ -73,6 +73,10 @@ abbrev pub success_reply : List ℕ → Option Endpoint → List ℕ
 success_reply c None = []
 success_reply c (Some at) = success (version_of c) Command.Connect at
 
+-- the answers to the greeting and the login, and the reply of success
+abbrev pub replies_by : List ℕ → Option Chosen → Option Cause → Option Endpoint → List ℕ
+replies_by c chosen cause at = opening_owed c chosen cause ++ success_reply c at
+
 abbrev pub payload_to_client : List ℕ → Option Endpoint → List ℕ
 payload_to_client t None = []
 payload_to_client t (Some at) = t

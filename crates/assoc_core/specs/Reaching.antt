@@ -57,5 +57,6 @@ pub record HasGreeted {L : Type 0} (told : L → Told) (counts : L → Counts) (
   pub state' : z.state ≡ (let r = b.state in record r { sent_c = r.sent_c ++ bytes })
   pub target' : z.target ≡ b.target
   pub told' : told z.client ≡ (let t = told b.client in record t { taken = more t.taken bytes })
+  pub stuck : (told b.client).room ≡ Some 0 → bytes ≡ []
   pub later : Later (counts b.client) (counts z.client)
   pub full' : full ≡ true → (0 < length rest) × IsFull (told z.client) × Rose (counts b.client).idle_writes (counts z.client).idle_writes

@@ -17,13 +17,14 @@ SendEnds told old new rest All = rest ≡ []
 SendEnds told old new rest Full = (0 < length rest) × IsFull told × Rose old.idle_writes new.idle_writes
 SendEnds told old new rest Failed = (0 < length rest) × (told.unfailing ≡ false) × Rose old.faults new.faults
 
--- the link took the first bytes of what was pending, and they were added to what was sent
+-- the link took the first bytes of what was pending, and they were added to what was sent; one whose writes take nothing took none
 pub record Sends (old new : Told) (counts counts' : Counts) (before after pending : List ℕ) (outcome : Sent) : Type 0 where
   pub bytes : List ℕ
   pub rest : List ℕ
   pub pending' : bytes ++ rest ≡ pending
   pub after' : after ≡ before ++ bytes
   pub told' : new ≡ record old { taken = more old.taken bytes }
+  pub stuck : old.room ≡ Some 0 → bytes ≡ []
   pub later : Later counts counts'
   pub ends : SendEnds new counts counts' rest outcome
 

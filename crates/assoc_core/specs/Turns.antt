@@ -1,5 +1,5 @@
 -- What one turn comes to.
-use Rattle.std.specs.Prelude.{ℕ, ◌+◌, ◌≡◌, ◌<◌, ◌≤◌, Bool, true, false, Option, Some, None, List, [], ◌∷◌, ◌++◌, length, is_some}
+use Rattle.std.specs.Prelude.{ℕ, ◌+◌, ◌≡◌, ◌≢◌, ◌<◌, ◌≤◌, Bool, true, false, Option, Some, None, List, [], ◌∷◌, ◌++◌, length, is_some}
 use Rattle.conf_model.specs.declared.config.Config.{Config}
 use Rattle.conf_model.specs.declared.protocol.Command.{Command}
 use Rattle.conf_model.specs.declared.user.User.{User}
@@ -106,6 +106,7 @@ GoesOn users (Next.Done e) = (e.state.done ≡ true) × (is_udp e.state ≡ fals
 pub record SameOutside (old new : Told) : Type 0 where
   pub arrived : new.arrived ≡ old.arrived
   pub cap : new.cap ≡ old.cap
+  pub room : new.room ≡ old.room
   pub unfailing : new.unfailing ≡ old.unfailing
 
 -- the target's link is the one that was there, or the one that the dial gave
@@ -119,6 +120,11 @@ SameTarget told net (Some old) None = ⊥
 abbrev pub IsUnfailing : {L : Type 0} → (L → Told) → NetTold → Option L → Type 0
 IsUnfailing told net None = (plan : Plan) × (net.plan ≡ Some plan) × (plan.link.unfailing ≡ true)
 IsUnfailing told net (Some link) = (told link).unfailing ≡ true
+
+-- whether the writes to the target's link take nothing, where it is there or comes as planned
+abbrev pub TakesNothing : {L : Type 0} → (L → Told) → NetTold → Option L → Type 0
+TakesNothing told net None = (plan : Plan) × (net.plan ≡ Some plan) × (plan.link.room ≡ Some 0)
+TakesNothing told net (Some link) = (told link).room ≡ Some 0
 
 -- the outcome of a dial as the event has it
 abbrev pub outer_of : DialOutcome → Outer
@@ -166,23 +172,31 @@ PlanStays net net' outer there = net'.plan ≡ net.plan
 abbrev pub IsIdle : Told → Type 0
 IsIdle told = (arrival : Arrival) (given : List ℕ) → told.arrived ≡ Some arrival → told.given ≡ Some given → (given ≡ arrival.bytes) × (arrival.ends ≡ false)
 
--- NotYet to a write: it has taken as much as it can
+-- NotYet to a write: it has taken as much as it can, unless its writes take nothing
 abbrev pub IsFull : Told → Type 0
-IsFull told = (cap : ℕ) (taken : List ℕ) → told.cap ≡ Some cap → told.taken ≡ Some taken → cap ≤ length taken
+IsFull told = told.room ≢ Some 0 → (cap : ℕ) (taken : List ℕ) → told.cap ≡ Some cap → told.taken ≡ Some taken → cap ≤ length taken
 
 abbrev pub IsThereAnd : {L : Type 0} → Option L → (L → Type 0) → Type 0
 IsThereAnd None p = ⊥
 IsThereAnd (Some link) p = p link
 
--- why nothing more was read of a side: it has ended, or answered NotYet, a quantum was taken, a call failed, or the
--- phase behind all that was taken, but for the ends, doesn't read it
-pub data StopsReading (was ends idle : Bool) (part : List ℕ) (fault : Option Object) (Unread : Type 0) : Type 0 where
-  ended : was ≡ true → StopsReading was ends idle part fault Unread
-  ends' : ends ≡ true → StopsReading was ends idle part fault Unread
-  rested : idle ≡ true → StopsReading was ends idle part fault Unread
-  took : quantum ≤ length part → StopsReading was ends idle part fault Unread
-  failed : is_some fault ≡ true → StopsReading was ends idle part fault Unread
-  unread : Unread → StopsReading was ends idle part fault Unread
+-- why nothing more was read of a side: it has ended, or answered NotYet, a quantum was taken, a call failed, as many bytes of
+-- it wait in a relay as a pipe holds, or the phase behind all that was taken, but for the ends, doesn't read it
+pub data StopsReading (was ends idle : Bool) (part : List ℕ) (fault : Option Object) (Filled Unread : Type 0) : Type 0 where
+  ended : was ≡ true → StopsReading was ends idle part fault Filled Unread
+  ends' : ends ≡ true → StopsReading was ends idle part fault Filled Unread
+  rested : idle ≡ true → StopsReading was ends idle part fault Filled Unread
+  took : quantum ≤ length part → StopsReading was ends idle part fault Filled Unread
+  failed : is_some fault ≡ true → StopsReading was ends idle part fault Filled Unread
+  held : Filled → StopsReading was ends idle part fault Filled Unread
+  unread : Unread → StopsReading was ends idle part fault Filled Unread
+
+-- the phase behind all that was taken, but for the ends, is Relay, and behind the turn as many bytes of a side wait as a pipe holds
+pub record Filled (s : Context) (old left : Record) (event : TurnEvent) (waiting : Basis → Record → ℕ) : Type 0 where
+  pub behind : Record
+  pub taken' : taken s.basis s.generation (s.config).methods (without_ends event) old ≡ Some behind
+  pub relays : phase s.basis behind ≡ Phase.Relay
+  pub waits : pipe_size ≤ waiting s.basis left
 
 -- the phase behind all that was taken, but for the ends, reads no more of a side
 pub record Unread (s : Context) (old : Record) (event : TurnEvent) (reads : Record → Phase → Bool) : Type 0 where
@@ -190,8 +204,8 @@ pub record Unread (s : Context) (old : Record) (event : TurnEvent) (reads : Reco
   pub taken' : taken s.basis s.generation (s.config).methods (without_ends event) old ≡ Some behind
   pub unread' : reads behind (phase s.basis behind) ≡ false
 
--- An end was read where the phase behind all that was taken, but for the ends, reads that side. In Relay, where no call
--- failed and no link was full, fewer bytes of this side wait behind the turn than a pipe holds.
+-- An end was read where the phase behind all that was taken, but for the ends, reads that side. In Relay fewer bytes of this
+-- side wait behind the turn than a pipe holds.
 pub record ReadsEnd (s : Context) (old left : Record) (event : TurnEvent) (was : Bool) (part : List ℕ) (reads : Record → Phase → Bool)
     (waiting : Basis → Record → ℕ) : Type 0 where
   pub unended : was ≡ false
@@ -199,7 +213,7 @@ pub record ReadsEnd (s : Context) (old left : Record) (event : TurnEvent) (was :
   pub behind : Record
   pub taken' : taken s.basis s.generation (s.config).methods (without_ends event) old ≡ Some behind
   pub reads' : reads behind (phase s.basis behind) ≡ true
-  pub room : phase s.basis behind ≡ Phase.Relay → event.fault ≡ None → event.full ≡ [] → waiting s.basis left < pipe_size
+  pub room : phase s.basis behind ≡ Phase.Relay → waiting s.basis left < pipe_size
 
 -- ---- a turn
 
@@ -238,8 +252,10 @@ pub record Turns {L : Type 0} (told : L → Told) (counts : L → Counts) (stand
   pub plan' : PlanStays net net' acts.outer (is_some (reached_at (result.left).decisions))
   pub outer' : IsOuterOf net (phase s.basis behind) acts.outer
   pub stops_c : (worker : ℕ) → StopsReading a.state.end_c acts.end_c acts.idle_c acts.c acts.fault
+      (Filled s a.state result.left (event_of worker a.state.number now acts (mark_of next)) waiting_for_target)
       (Unread s a.state (event_of worker a.state.number now acts (mark_of next)) (reads_client s.basis (links acts.idle_c acts.idle_t) (links acts.full_c acts.full_t)))
   pub stops_t : (worker : ℕ) → StopsReading a.state.end_t acts.end_t acts.idle_t acts.t acts.fault
+      (Filled s a.state result.left (event_of worker a.state.number now acts (mark_of next)) waiting_for_client)
       (Unread s a.state (event_of worker a.state.number now acts (mark_of next)) reads_target)
   pub reads_end_c : (worker : ℕ) → acts.end_c ≡ true → ReadsEnd s a.state result.left (event_of worker a.state.number now acts (mark_of next)) a.state.end_c acts.c
       (reads_client s.basis (links acts.idle_c acts.idle_t) (links acts.full_c acts.full_t)) waiting_for_target
@@ -250,6 +266,8 @@ pub record Turns {L : Type 0} (told : L → Told) (counts : L → Counts) (stand
   pub full_c : acts.full_c ≡ true → IsFull (told (left_of next).client) × Rose (counts a.client).idle_writes (counts (left_of next).client).idle_writes
       × (length result.left.sent_c < length (owed_c result.left))
   pub full_t : acts.full_t ≡ true → IsThereAnd (left_of next).target (λ link. IsFull (told link)) × (length result.left.sent_t < length (owed_t result.left))
+  pub room_c : (told a.client).room ≡ Some 0 → acts.sent_c ≡ 0
+  pub room_t : TakesNothing told net a.target → acts.sent_t ≡ 0
   pub fails_c : acts.fault ≡ Some Object.Client → Rose (counts a.client).faults (counts (left_of next).client).faults
   pub unfailing : (told a.client).unfailing ≡ true → IsUnfailing told net a.target → (acts.fault ≡ None) × (acts.unwritten ≡ false)
 

@@ -1,5 +1,6 @@
-ghost use Rattle.std.specs.Prelude.{◌≡◌, None};
+ghost use Rattle.std.specs.Prelude.{◌≡◌, None, IfErr, IfOk};
 ghost use Rattle.socks_machine.specs.Step.{fresh};
+ghost use Rattle.assoc_core.specs.declared.assoc.OpenFault.TheVariants.{Memory};
 
 use addr_pattern::Endpoint;
 use conf_text::{List, Text};
@@ -33,8 +34,18 @@ pub enum Next<L> {
     Done(Ended<L>),
 }
 
+/// Why an association isn't opened, with the link of its client.
+#[derive(Drop)]
+pub enum OpenFault<L> {
+    Memory(L),
+}
+
+/// How many decisions a CONNECT comes to at most: an open, a lookup, a grant and a dial.
+const DECISIONS: usize = 4;
+
 impl<L: Link> Assoc<L> {
-    /// An association on which nothing has happened yet. `now` is in seconds.
+    /// An association on which nothing has happened yet. `now` is in seconds. It takes the memory of its decisions; where that
+    /// is refused it gives the link back.
     pub fn open(
         alloc: Global,
         number: u64,
@@ -42,11 +53,14 @@ impl<L: Link> Assoc<L> {
         peer: Endpoint,
         local: Endpoint,
         now: u64,
-    ) -> Assoc<L>
-        ensures state { result.state ≡ fresh number peer local now }
-        ensures client { result.client ≡ client }
-        ensures target { result.target ≡ None }
+    ) -> Result<Assoc<L>, OpenFault<L>>
+        ensures opened { IfOk result (λ assoc. assoc ≡ record { state = fresh number peer local now; client = client; target = None }) }
+        ensures refused { IfErr result (λ fault. fault ≡ Memory client) }
     {
+        let decisions = match Vec::with_capacity(alloc, DECISIONS) {
+            Ok(decisions) => List::from_vec(decisions),
+            Err(_) => return Err(OpenFault::Memory(client)),
+        };
         let state = Record {
             number,
             peer,
@@ -61,18 +75,18 @@ impl<L: Link> Assoc<L> {
             shut_c: false,
             shut_t: false,
             chosen: None,
-            decisions: List::make(alloc),
+            decisions,
             grams: List::make(alloc),
             sent_u: List::make(alloc),
             cause: None,
             at_close: None,
             done: false,
         };
-        Assoc {
+        Ok(Assoc {
             state,
             client,
             target: None,
-        }
+        })
     }
 
     /// The association at its end.

@@ -6,6 +6,7 @@ mod assoc;
 mod carry;
 mod close;
 mod closing;
+mod due;
 mod grant;
 mod hear;
 mod judge;
@@ -21,5 +22,8 @@ mod seek;
 mod send;
 mod talk;
 
-pub use assoc::{Assoc, Ended, Next};
+pub use assoc::{Assoc, Ended, Next, OpenFault};
 pub use one_turn::{Course, turn};
+
+#[cfg(test)]
+mod tests;

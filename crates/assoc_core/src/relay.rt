@@ -7,15 +7,17 @@ ghost use Rattle.socks_machine.specs.declared.cause.StopBy.{StopBy};
 ghost use Rattle.socks_machine.specs.declared.lines.Line.{Line};
 ghost use Rattle.socks_machine.specs.Decisions.{reached_at as first_reached};
 ghost use Rattle.socks_machine.specs.Socks.{socks};
-ghost use Rattle.assoc_core.specs.Carrying.{Passes, has_ended as ended_by, is_sound as sound_by, fault_of as fault_in, object_of, has_pending, took_quantum as quantum_in, unwritten_of};
+ghost use Rattle.assoc_core.specs.Carrying.{CarriesToClient, CarriesToTarget, Passes, has_ended as ended_by, is_sound as sound_by, fault_of as fault_in, object_of, has_pending, took_quantum as quantum_in, unwritten_of};
 ghost use Rattle.assoc_core.specs.Plain.{prelude_of};
 ghost use Rattle.assoc_core.specs.Stands.{Stands};
 ghost use Rattle.assoc_core.specs.Turns.{Turns, context};
 
 use crate::assoc::{Assoc, Next};
-use crate::carry::{Give, Take, give_to, take_from};
+use crate::carry::{Give, Take, give_rest, take_from};
+use crate::due::Due;
 use crate::prelude::prelude_in;
-use crate::replies::owed_to_client;
+use crate::replies::replies_to_client;
+use conf_text::Text;
 use net_ends::Link;
 use session_desk::DeskCall;
 use socks_machine::{Cause, Record};
@@ -56,7 +58,83 @@ pub fn is_sound(give: Give) -> bool
     !matches!(give, Give::Unwritten | Give::Unshut)
 }
 
-/// Reads the client, writes the target, reads the target, and writes the client.
+/// Reads the client, and writes and shuts the target. Where the client's read failed nothing more is done.
+fn carry_to_target<L: Link>(
+    alloc: Global,
+    state: &mut Record,
+    client: &mut L,
+    target: &mut L,
+) -> Result<(Take, Give), AllocError>
+    ensures { IfOk result (λ came. CarriesToTarget (L.told client.old) (L.told client.new) (L.counts client.old) (L.counts client.new) (L.told target.old) (L.told target.new) (L.counts target.old) (L.counts target.new) state.old state.new came.0 came.1) }
+{
+    let due = Due {
+        front: Text::make(alloc),
+        skip: prelude_in(state),
+    };
+    let (took_c, stopped) = take_from(
+        alloc,
+        client,
+        &mut state.c,
+        &mut state.end_c,
+        true,
+        target,
+        &mut state.sent_t,
+        &due,
+    )?;
+    if let Take::Failed = took_c {
+        return Ok((took_c, Give::Held));
+    }
+    let gave_t = give_rest(
+        alloc,
+        target,
+        &mut state.sent_t,
+        &due,
+        state.c.as_slice(),
+        has_ended(took_c),
+        &mut state.shut_t,
+        stopped,
+    )?;
+    Ok((took_c, gave_t))
+}
+
+/// Reads the target, where it is to be read, and writes and shuts the client.
+fn carry_to_client<L: Link>(
+    alloc: Global,
+    state: &mut Record,
+    client: &mut L,
+    target: &mut L,
+    reads: bool,
+) -> Result<(Take, Give), AllocError>
+    ensures { IfOk result (λ came. CarriesToClient (L.told target.old) (L.told target.new) (L.counts target.old) (L.counts target.new) (L.told client.old) (L.told client.new) (L.counts client.old) (L.counts client.new) reads state.old state.new came.0 came.1) }
+{
+    let due = Due {
+        front: replies_to_client(alloc, state)?,
+        skip: 0,
+    };
+    let (took_t, stopped) = take_from(
+        alloc,
+        target,
+        &mut state.t,
+        &mut state.end_t,
+        reads,
+        client,
+        &mut state.sent_c,
+        &due,
+    )?;
+    let gave_c = give_rest(
+        alloc,
+        client,
+        &mut state.sent_c,
+        &due,
+        state.t.as_slice(),
+        has_ended(took_t),
+        &mut state.shut_c,
+        stopped,
+    )?;
+    Ok((took_t, gave_c))
+}
+
+/// Reads the client and writes the target, and then reads the target and writes the client.
 fn carry_both<L: Link>(
     alloc: Global,
     state: &mut Record,
@@ -65,42 +143,17 @@ fn carry_both<L: Link>(
 ) -> Result<Pass, AllocError>
     ensures { IfOk result (λ pass. Passes (L.told client.old) (L.told client.new) (L.told target.old) (L.told target.new) (L.counts client.old) (L.counts client.new) (prelude_of state.old) state.old state.new pass) }
 {
-    let prelude = prelude_in(state);
-    let took_c = take_from(alloc, client, &mut state.c, &mut state.end_c, true)?;
+    let (took_c, gave_t) = carry_to_target(alloc, state, client, target)?;
     if let Take::Failed = took_c {
         return Ok(Pass {
             took_c,
-            gave_t: Give::Held,
+            gave_t,
             took_t: Take::Unread,
             gave_c: Give::Held,
         });
     }
-    let to_target = behind(behind(state.c.as_slice(), prelude), state.sent_t.len());
-    let gave_t = give_to(
-        alloc,
-        target,
-        &mut state.sent_t,
-        to_target,
-        has_ended(took_c),
-        &mut state.shut_t,
-    )?;
-    let took_t = take_from(
-        alloc,
-        target,
-        &mut state.t,
-        &mut state.end_t,
-        is_sound(gave_t),
-    )?;
-    let owed = owed_to_client(alloc, state)?;
-    let to_client = behind(owed.as_slice(), state.sent_c.len());
-    let gave_c = give_to(
-        alloc,
-        client,
-        &mut state.sent_c,
-        to_client,
-        has_ended(took_t),
-        &mut state.shut_c,
-    )?;
+    let reads = is_sound(gave_t);
+    let (took_t, gave_c) = carry_to_client(alloc, state, client, target, reads)?;
     Ok(Pass {
         took_c,
         gave_t,

@@ -6,7 +6,7 @@ ghost use Rattle.socks_machine.specs.Decisions.{reached_at as first_reached};
 ghost use Rattle.socks_machine.specs.Replies.{refusal, failing_reply, answer_to as answer_due};
 ghost use Rattle.socks_machine.specs.Socks.{chosen_reply, passed_reply, is_in_login as in_login_by, success};
 ghost use Rattle.socks_machine.specs.View.{asks_login as login_is_asked};
-ghost use Rattle.assoc_core.specs.Plain.{owed_c, opening_owed, has_passed as passes, is_login_failed as fails_login, refused_at};
+ghost use Rattle.assoc_core.specs.Plain.{owed_c, replies_by, opening_owed, has_passed as passes, is_login_failed as fails_login, refused_at};
 ghost use Rattle.assoc_core.specs.Answered.{answer_of};
 
 use addr_pattern::{Addr, Endpoint};
@@ -215,6 +215,18 @@ fn add_refusal(
         Reply::Bytes(first, second) => owed.add(&[first, second]),
         Reply::Silence => Ok(()),
     }
+}
+
+/// What is owed to the client before the target's bytes: the answers to the greeting and the login, and the reply of success.
+pub fn replies_to_client(alloc: Global, r: &Record) -> Result<Text, AllocError>
+    ensures { IfOk result (λ owed. owed ≡ replies_by r.now.c r.now.chosen r.now.cause (first_reached r.now.decisions)) }
+{
+    let mut owed = Text::make(alloc);
+    add_opening(&mut owed, r.c.as_slice(), r.chosen, r.cause)?;
+    if let Some(at) = reached_at(r.decisions.as_slice()) {
+        add_success(&mut owed, r.c.as_slice(), at)?;
+    }
+    Ok(owed)
 }
 
 /// All that is owed to the client from the beginning: the answers to the greeting and the login, the reply of success and the

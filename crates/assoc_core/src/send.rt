@@ -1,4 +1,4 @@
-ghost use Rattle.std.specs.Prelude.{◌≡◌, ◌≤◌, length, take, drop, IfOk};
+ghost use Rattle.std.specs.Prelude.{◌≡◌, ◌≤◌, Some, length, take, drop, IfOk};
 ghost use Rattle.net_ends.specs.Told.{more};
 ghost use Rattle.net_ends.specs.Counts.{Later};
 ghost use Rattle.assoc_core.specs.Sending.{SendEnds, Sends};
@@ -20,6 +20,7 @@ pub enum Sent {
 pub fn send_all<L: Link>(link: &mut L, bytes: &[u8]) -> (usize, Sent)
     ensures within { result.0 ≤ length bytes.now }
     ensures told { L.told link.new ≡ record (L.told link.old) { taken = more (L.told link.old).taken (take result.0 bytes.now) } }
+    ensures stuck { (L.told link.old).room ≡ Some 0 → result.0 ≡ 0 }
     ensures later { Later (L.counts link.old) (L.counts link.new) }
     ensures ends { SendEnds (L.told link.new) (L.counts link.old) (L.counts link.new) (drop result.0 bytes.now) result.1 }
 {

@@ -57,6 +57,6 @@ unasked : (source : Seen) → source.counts.idle_reads < 2 ^ 64 - 1 → SourceRe
 unasked source h rest = let rose = (rest.idle refl (omega arith)).1 in omega (arith, rose, h)
 
 -- a source's bytes come behind those that it gave, a sink's behind those that it took
-links : after_taking (after_giving (record { given = Some (1 ∷ []); taken = Some []; ended = false; shut = false; arrived = None; cap = None; unfailing = false }) (2 ∷ []) true) (5 ∷ []) false
-    ≡ record { given = Some (1 ∷ 2 ∷ []); taken = Some (5 ∷ []); ended = true; shut = false; arrived = None; cap = None; unfailing = false }
+links : after_taking (after_giving (record { given = Some (1 ∷ []); taken = Some []; ended = false; shut = false; arrived = None; cap = None; room = None; unfailing = false }) (2 ∷ []) true) (5 ∷ []) false
+    ≡ record { given = Some (1 ∷ 2 ∷ []); taken = Some (5 ∷ []); ended = true; shut = false; arrived = None; cap = None; room = None; unfailing = false }
 links = refl

@@ -1,5 +1,5 @@
 -- One direction of a relay, from the link that gives, its source, to the link that takes, its sink.
-use Rattle.std.specs.Prelude.{ℕ, zero, suc, ◌≡◌, ◌<◌, ◌≤◌, ◌+◌, ◌-◌, ◌^◌, min, Bool, true, false, ◌||◌, Some, Result, Ok, Err, List, [], ◌++◌, length}
+use Rattle.std.specs.Prelude.{ℕ, zero, suc, ◌≡◌, ◌≢◌, ◌<◌, ◌≤◌, ◌+◌, ◌-◌, ◌^◌, min, Bool, true, false, ◌||◌, Some, Result, Ok, Err, List, [], ◌++◌, length}
 use mathlib.Core.List.{IsPrefix}
 use Rattle.net_ends.specs.Counts.{Counts, Later, Rose}
 use Rattle.net_ends.specs.Told.{Told, Arrival, more}
@@ -60,9 +60,9 @@ after_taking told sent shuts = record told { taken = more told.taken sent; shut 
 abbrev pub IsIdle : Told → Type 0
 IsIdle told = (arrival : Arrival) (given : List ℕ) → told.arrived ≡ Some arrival → told.given ≡ Some given → (given ≡ arrival.bytes) × (arrival.ends ≡ false)
 
--- it has taken as much as it can
+-- it has taken as much as it can, unless a write takes nothing
 abbrev pub IsFull : Told → Type 0
-IsFull told = (cap : ℕ) (taken : List ℕ) → told.cap ≡ Some cap → told.taken ≡ Some taken → cap ≤ length taken
+IsFull told = told.room ≢ Some 0 → (cap : ℕ) (taken : List ℕ) → told.cap ≡ Some cap → told.taken ≡ Some taken → cap ≤ length taken
 
 -- its end was read only behind all that arrived
 abbrev pub EndsBehind : Told → Type 0

@@ -10,14 +10,15 @@ use Rattle.net_ends.specs.Stores.{Files}
 use Rattle.net_ends.specs.Streams.{SourceTold}
 use Rattle.net_ends.specs.Told.{Told}
 
--- a link: what arrived at it and what it gave of that, what it took and how many bytes it can take in all; none of its calls
--- is to fail where it is unfailing
+-- a link: what arrived at it and what it gave of that, what it took and how many bytes it can take in all, and the most that
+-- one write takes, where that is bounded; none of its calls is to fail where it is unfailing
 pub record LinkInMemory : Type 0 where
   pub arrived : List ℕ
   pub ends : Bool
   pub given : List ℕ
   pub taken : List ℕ
   pub cap : ℕ
+  pub room : Option ℕ
   pub ended : Bool
   pub shut : Bool
   pub unfailing : Bool
@@ -33,6 +34,7 @@ told_of_link link = record {
   shut = link.shut;
   arrived = Some (record { bytes = link.arrived; ends = link.ends });
   cap = Some link.cap;
+  room = link.room;
   unfailing = link.unfailing;
 }
 
@@ -44,6 +46,7 @@ fresh_link cap = record {
   given = [];
   taken = [];
   cap = cap;
+  room = None;
   ended = false;
   shut = false;
   unfailing = true;

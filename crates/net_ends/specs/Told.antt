@@ -1,5 +1,5 @@
 -- What a link tells of itself, and how an answer changes it.
-use Rattle.std.specs.Prelude.{◌≡◌, ◌<◌, ◌≤◌, ℕ, Bool, true, false, Option, Some, None, List, [], ◌++◌, take, length}
+use Rattle.std.specs.Prelude.{◌≡◌, ◌≢◌, ◌<◌, ◌≤◌, ℕ, Bool, true, false, Option, Some, None, List, [], ◌++◌, take, length}
 use mathlib.Core.List.{IsPrefix}
 use Rattle.net_ends.specs.declared.link.Reading.{Reading}
 use Rattle.net_ends.specs.declared.link.Writing.{Writing}
@@ -11,8 +11,8 @@ pub record Arrival : Type 0 where
   pub ends : Bool
 
 -- What a link has given and taken, where it tells. It always says whether it has answered its end, and whether a shut of
--- it was done. A link of memory tells more: what has arrived at it, how many bytes it can take in all, and that none of its
--- calls fails any more.
+-- it was done. A link of memory tells more: what has arrived at it, how many bytes it can take in all, the most that one write
+-- takes of it, where that is bounded, and that none of its calls fails any more.
 pub record Told : Type 0 where
   pub given : Option (List ℕ)
   pub taken : Option (List ℕ)
@@ -20,6 +20,7 @@ pub record Told : Type 0 where
   pub shut : Bool
   pub arrived : Option Arrival
   pub cap : Option ℕ
+  pub room : Option ℕ
   pub unfailing : Bool
 
 -- what was told, with more behind it
@@ -50,10 +51,10 @@ MayRead told room Reading.End = Unit {0}
 MayRead told room Reading.NotYet = told.ended ≡ false
 MayRead told room Reading.Failed = told.unfailing ≡ false
 
--- a write of that many bytes takes some of them, or none where there is no room
+-- a write of that many bytes takes some of them, within the room of a write, or none where there is no room
 abbrev pub MayWrite : Told → ℕ → Writing → Type 0
-MayWrite told len (Writing.Took n) = (0 < n) × (n ≤ len)
-MayWrite told len Writing.NotYet = (cap : ℕ) (taken : List ℕ) → told.cap ≡ Some cap → told.taken ≡ Some taken → cap ≤ length taken
+MayWrite told len (Writing.Took n) = (0 < n) × (n ≤ len) × ((room : ℕ) → told.room ≡ Some room → n ≤ room)
+MayWrite told len Writing.NotYet = told.room ≢ Some 0 → (cap : ℕ) (taken : List ℕ) → told.cap ≡ Some cap → told.taken ≡ Some taken → cap ≤ length taken
 MayWrite told len Writing.Failed = told.unfailing ≡ false
 
 abbrev pub MayShut : Told → Shutting → Type 0

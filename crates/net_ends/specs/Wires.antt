@@ -25,5 +25,5 @@ WireMayRead told room Taking.Failed = told.unfailing ≡ true → GivesArrived t
 
 -- a write of that many bytes takes some of them; where none of the calls is to fail, it fails only where there is no room
 abbrev pub WireMayWrite : Told → ℕ → Giving → Type 0
-WireMayWrite told len (Giving.Took n) = (0 < n) × (n ≤ len)
+WireMayWrite told len (Giving.Took n) = MayWrite told len (Writing.Took n)
 WireMayWrite told len Giving.Failed = told.unfailing ≡ true → MayWrite told len Writing.NotYet

@@ -1,4 +1,4 @@
-ghost use Rattle.std.specs.Prelude.{◌≡◌, ◌<◌, ◌≤◌, ◌+◌, ◌++◌, true, false, IfOk, OnOk, OnErr, length};
+ghost use Rattle.std.specs.Prelude.{ℕ, ◌≡◌, ◌≢◌, ◌<◌, ◌≤◌, ◌+◌, ◌-◌, ◌++◌, true, false, Some, IfOk, OnOk, OnErr, length};
 
 use crate::failing::FailingCalls;
 use crate::link::{Link, Reading, Shutting, Writing};
@@ -7,7 +7,8 @@ use conf_text::{Memory, Text};
 use std::alloc::Global;
 use std::marker::Model;
 
-/// A link that gives what arrived at it, and keeps what it took. It takes bytes only into the room that was made for them.
+/// A link that gives what arrived at it, and keeps what it took. It takes bytes only into the room that was made for them, and
+/// in one write no more than was set.
 #[derive(Drop)]
 pub struct MemLink {
     arrived: Text,
@@ -15,6 +16,7 @@ pub struct MemLink {
     ends: bool,
     taken: Vec<u8>,
     cap: usize,
+    room: Option<usize>,
     ended: bool,
     shut: bool,
     failing: FailingCalls,
@@ -35,6 +37,7 @@ impl Model for MemLink {
       given = take m.given m.arrived;
       taken = m.taken.items;
       cap = m.cap;
+      room = m.room;
       ended = m.ended;
       shut = m.shut;
       unfailing = length m.failing.numbers == 0;
@@ -60,6 +63,7 @@ impl MemLink {
                 ends: false,
                 taken,
                 cap,
+                room: None,
                 ended: false,
                 shut: false,
                 failing: FailingCalls::none(alloc),
@@ -81,6 +85,7 @@ impl MemLink {
             ends: false,
             taken: Vec::new(alloc),
             cap: 0,
+            room: None,
             ended: false,
             shut: false,
             failing: FailingCalls::none(alloc),
@@ -126,12 +131,32 @@ impl MemLink {
         }
     }
 
+    /// Each write takes at most that many bytes from here on; none where that is 0.
+    pub fn set_room(&mut self, most: usize)
+        ensures { self.new ≡ record self.old { room = Some most } }
+    {
+        self.room = Some(most);
+    }
+
     /// The call of this number, counted from 1 over all calls, is to fail.
     pub fn fail_at(&mut self, number: u64) -> Result<(), Memory>
         ensures ok { OnOk result (self.new ≡ record self.old { unfailing = false; failing = with_failure self.old.failing number }) }
         ensures err { OnErr result (self.new ≡ self.old) }
     {
         self.failing.add(number)
+    }
+
+    /// How many bytes a write can take now.
+    fn spare_of_write(&self) -> usize
+        ensures within { result ≤ self.now.cap - length self.now.taken }
+        ensures room { (room : ℕ) → self.now.room ≡ Some room → result ≤ room }
+        ensures full { self.now.room ≢ Some 0 → result ≡ 0 → self.now.cap ≤ length self.now.taken }
+    {
+        let spare = self.cap - self.taken.len();
+        match self.room {
+            None => spare,
+            Some(room) => spare.min(room),
+        }
     }
 
     /// What it took.
@@ -211,7 +236,7 @@ impl Link for MemLink {
             self.faults = self.faults.saturating_add(1);
             return Writing::Failed;
         }
-        let n = from.len().min(self.cap - self.taken.len());
+        let n = from.len().min(self.spare_of_write());
         if n == 0 {
             self.idle_writes = self.idle_writes.saturating_add(1);
             return Writing::NotYet;

@@ -1,4 +1,4 @@
-ghost use Rattle.std.specs.Prelude.{◌≡◌, ◌++◌, ◌+◌, true, false, IfOk, OnOk, OnErr, option_copied};
+ghost use Rattle.std.specs.Prelude.{◌≡◌, ◌++◌, ◌+◌, true, false, Some, IfOk, OnOk, OnErr, option_copied};
 
 use crate::memory_link::MemLink;
 use crate::net::{Dialing, Lookup, Net};
@@ -117,6 +117,13 @@ impl MemNet {
         ensures err { OnErr result (self.new ≡ self.old) }
     {
         self.link.spare(further)
+    }
+
+    /// Each write to the link that waits takes at most that many bytes from here on.
+    pub fn set_room(&mut self, most: usize)
+        ensures { self.new ≡ record self.old { link = record self.old.link { room = Some most } } }
+    {
+        self.link.set_room(most)
     }
 
     /// Which name was looked up last.

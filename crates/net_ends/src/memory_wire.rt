@@ -1,4 +1,4 @@
-ghost use Rattle.std.specs.Prelude.{◌≡◌, ◌+◌, ◌++◌, true, false, IfOk, OnOk, OnErr};
+ghost use Rattle.std.specs.Prelude.{◌≡◌, ◌+◌, ◌++◌, true, false, Some, IfOk, OnOk, OnErr};
 
 use crate::link::{Link, Reading, Shutting, Writing};
 use crate::memory_link::MemLink;
@@ -76,6 +76,13 @@ impl MemWire {
         ensures err { OnErr result (self.new ≡ self.old) }
     {
         self.link.spare(further)
+    }
+
+    /// Each write takes at most that many bytes from here on; where that is 0, each fails.
+    pub fn set_room(&mut self, most: usize)
+        ensures { self.new ≡ record self.old { room = Some most } }
+    {
+        self.link.set_room(most)
     }
 
     /// The call of this number, counted from 1 over all calls, is to fail.

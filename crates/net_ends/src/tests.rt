@@ -71,12 +71,37 @@ fn link_fails_at_the_numbered_calls(rt: HostRuntime) -> Result<(), Fail> {
     Ok(())
 }
 
+/// Two writes, behind the room that was set.
+fn write_within<L: Link>(link: &mut L) -> (Writing, Writing) {
+    (link.write(b"abc"), link.write(b"d"))
+}
+
+#[test]
+fn link_takes_within_the_room_of_a_write(rt: HostRuntime) -> Result<(), Fail> {
+    let none = Writing::NotYet;
+    let rows = [
+        (0, (none, none), ""),
+        (1, (Writing::Took(1), Writing::Took(1)), "ad"),
+        (2, (Writing::Took(2), Writing::Took(1)), "abd"),
+        (9, (Writing::Took(3), Writing::Took(1)), "abcd"),
+    ];
+    for (most, wanted, taken) in &rows {
+        let mut link = link(rt.alloc(), b"", false, &[]).ok().ok_or("memory")?;
+        link.set_room(0);
+        link.set_room(*most);
+        assert_eq!(rt; write_within(&mut link), *wanted);
+        assert_eq!(rt; link.taken(), taken.as_bytes());
+    }
+    Ok(())
+}
+
 #[test]
 fn net_gives_its_link_once(rt: HostRuntime) -> Result<(), Fail> {
     let mut net = MemNet::make(rt.alloc(), 4).ok().ok_or("memory")?;
     net.arrive(b"hi").ok().ok_or("memory")?;
     net.end();
     net.spare(2).ok().ok_or("memory")?;
+    net.set_room(5);
     net.plan(DialPlan::Up(LOCAL));
     let Dialing::Up { mut link, local } = net.dial(TARGET) else {
         return Err("the dial was planned to come up".into());
@@ -86,7 +111,8 @@ fn net_gives_its_link_once(rt: HostRuntime) -> Result<(), Fail> {
     let mut buffer = [0; 4];
     assert_eq!(rt; link.read(&mut buffer), Reading::Got(2));
     assert_eq!(rt; link.read(&mut buffer), Reading::End);
-    assert_eq!(rt; link.write(b"seven by"), Writing::Took(6));
+    assert_eq!(rt; link.write(b"seven by"), Writing::Took(5));
+    assert_eq!(rt; link.write(b"seven by"), Writing::Took(1));
     assert!(rt; matches!(net.dial(TARGET), Dialing::Refused));
     Ok(())
 }
@@ -267,6 +293,9 @@ fn full_wire_fails(rt: HostRuntime) -> Result<(), Fail> {
     let mut wire = MemWire::make(rt.alloc(), 0).ok().ok_or("memory")?;
     assert_eq!(rt; wire.write(b"a"), Giving::Failed);
     wire.spare(1).ok().ok_or("memory")?;
+    wire.set_room(0);
+    assert_eq!(rt; wire.write(b"a"), Giving::Failed);
+    wire.set_room(1);
     assert_eq!(rt; wire.write(b"a"), Giving::Took(1));
     assert_eq!(rt; wire.taken(), b"a".as_slice());
     assert!(rt; !wire.was_shut());

@@ -23,16 +23,10 @@ const REPLIES: usize = 64;
 fn opened(alloc: Global, number: u64, peer: Endpoint, local: Endpoint, now: u64) -> Option<Slot>
     ensures { IfSome result (λ slot. slot ≡ opened_slot number peer local now) }
 {
-    match MemLink::make(alloc, REPLIES) {
-        Err(_) => None,
-        Ok(client) => match MemNet::make(alloc, 0) {
-            Err(_) => None,
-            Ok(net) => Some(Slot::Going {
-                assoc: Assoc::open(alloc, number, client, peer, local, now),
-                net,
-            }),
-        },
-    }
+    let client = MemLink::make(alloc, REPLIES).ok()?;
+    let net = MemNet::make(alloc, 0).ok()?;
+    let assoc = Assoc::open(alloc, number, client, peer, local, now).ok()?;
+    Some(Slot::Going { assoc, net })
 }
 
 impl Replay {

@@ -18,4 +18,4 @@ HasWritten old new Giving.Failed bytes = Appends old new []
 
 -- what a wire tells that tells nothing
 abbrev pub untold : Told
-untold = record { given = None; taken = None; ended = false; shut = false; arrived = None; cap = None; unfailing = false }
+untold = record { given = None; taken = None; ended = false; shut = false; arrived = None; cap = None; room = None; unfailing = false }

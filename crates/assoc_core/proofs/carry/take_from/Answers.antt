@@ -1,40 +1,99 @@
-use Rattle.std.proofs.Common.{◌∙◌, ap, refl}
+use Rattle.std.proofs.Common.{◌∙◌, ap, refl, length, drop}
 use Rattle.net_ends.specs.Told.{Told}
-use Rattle.assoc_core.proofs.Carryings.{starts, goes-on, unread, stops, fills-quantum, ends-now, fewer}
-use Rattle.assoc_core.proofs.Sendings.{rose-before}
+use Rattle.assoc_core.specs.declared.carry.Take.{Take}
+use Rattle.assoc_core.specs.Carrying.{owed_of}
+use Rattle.assoc_core.proofs.Carryings.{starts, goes-on, unread, stops, same, fills-quantum, ends-now, fewer}
+use Rattle.assoc_core.proofs.Owing.{sent-none, sent-starts, room-as, room-on, read-on, nothing-read, waits-same, held-by-room, room-left}
+use Rattle.assoc_core.proofs.Sendings.{rose-before, later-same}
 use Rattle.assoc_core.proofs.carry.take_from.Goals as goal
 
 pub returns-then-not-reads : goal.returns-then-not-reads
-returns-then-not-reads g c = unread _ _ _ _ _ _ c.if-not-reads.true refl
-
-pub returns-then-ended : goal.returns-then-ended
-returns-then-ended g c = unread _ _ _ _ _ _ c.if-ended.true refl
-
-pub loop-left-init : goal.loop-left-init
-loop-left-init g c = record { so_far = starts _ _ _; unended = c.if-ended.false }
-
-pub loop-left-preserved : goal.loop-left-preserved
-loop-left-preserved g c = record {
-  so_far = goes-on _ _ _ _ _ _ _ _ _ _ _ _ c.loop-left.invariant.so_far (rw c.in-Got.is at c.in_ok-n.ensures.read) refl c.in_ok-n.ensures.later (rw c.in-Got.is at c.in_ok-n.ensures.arrived);
-  unended = c.loop-left.invariant.unended;
+returns-then-not-reads g c = record {
+  takes = unread _ _ _ _ _ _ c.if-not-reads.true refl;
+  rest = drop (length c.args.sent.now) (owed_of c.args.due.now.front c.args.due.now.skip c.args.text.now);
+  sends = sent-none _ _ _ _;
+  why = refl;
+  room = λ e. absurd (cc);
 }
 
+pub returns-then-ended : goal.returns-then-ended
+returns-then-ended g c = record {
+  takes = unread _ _ _ _ _ _ c.if-ended.true refl;
+  rest = drop (length c.args.sent.now) (owed_of c.args.due.now.front c.args.due.now.skip c.args.text.now);
+  sends = sent-none _ _ _ _;
+  why = refl;
+  room = λ e. absurd (cc);
+}
+
+pub loop-left-init : goal.loop-left-init
+loop-left-init g c = record { so_far = starts _ _ _; sends = sent-starts _ _ _ _; unended = c.if-ended.false }
+
+pub loop-left-preserved : goal.loop-left-preserved
+loop-left-preserved g c =
+    let k = rw c.in-Got.is at c.in_ok-n.ensures.read in
+    record {
+      so_far = goes-on _ _ _ _ _ _ _ _ _ _ _ _ c.loop-left.invariant.so_far k refl c.in_ok-n.ensures.later (rw c.in-Got.is at c.in_ok-n.ensures.arrived);
+      sends = read-on _ _ _ _ _ _ _ _ _ _ _ k.bytes (room-on _ _ _ _ _ _ _ _ _ _ _ _ _ c.loop-left.invariant.sends (room-as _ _ _ _ _ _ _ _ _ _ _ c.as_slice.ensures c.in_ok-give.ensures)) k.after';
+      unended = c.loop-left.invariant.unended;
+    }
+
+pub returns-in-Some : goal.returns-in-Some
+returns-in-Some g c =
+    let m = room-as _ _ _ _ _ _ _ _ _ _ _ c.as_slice.ensures c.in_ok-give.ensures in
+    record {
+      takes = stops _ _ _ _ _ _ _ _ _ _ _ _ _ Take.Held c.loop-left.invariant.so_far (same _ _) (later-same _) c.if-ended.false c.loop-left.invariant.unended c.loop-left.invariant.unended
+          (fewer _ _ c.loop-left.invariant.so_far.count c.loop-left-test.true);
+      rest = m.rest;
+      sends = room-on _ _ _ _ _ _ _ _ _ _ _ _ _ c.loop-left.invariant.sends m;
+      why = held-by-room c.loop-left.invariant.sends m c.in-Some.is;
+      room = λ e. absurd (cc);
+    }
+
 pub returns-in-End : goal.returns-in-End
-returns-in-End g c = ends-now _ _ _ _ _ _ _ _ _ _ _ _ c.loop-left.invariant.so_far (rw c.in-End.is at c.in_ok-n.ensures.read) c.in_ok-n.ensures.later (rw c.in-End.is at c.in_ok-n.ensures.arrived)
-    c.loop-left-test.true c.if-ended.false
+returns-in-End g c =
+    let k = rw c.in-End.is at c.in_ok-n.ensures.read in
+    let m = room-as _ _ _ _ _ _ _ _ _ _ _ c.as_slice.ensures c.in_ok-give.ensures in
+    record {
+      takes = ends-now _ _ _ _ _ _ _ _ _ _ _ _ c.loop-left.invariant.so_far k c.in_ok-n.ensures.later (rw c.in-End.is at c.in_ok-n.ensures.arrived) c.loop-left-test.true c.if-ended.false;
+      rest = m.rest;
+      sends = nothing-read _ _ _ _ _ _ _ _ _ _ _ k.0 (room-on _ _ _ _ _ _ _ _ _ _ _ _ _ c.loop-left.invariant.sends m);
+      why = refl;
+      room = λ e. waits-same _ _ _ _ _ k.0 (room-left m c.in_default.is);
+    }
 
 pub returns-in-NotYet : goal.returns-in-NotYet
 returns-in-NotYet g c =
-    stops _ _ _ _ _ _ _ _ _ _ _ _ _ _ c.loop-left.invariant.so_far (rw c.in-NotYet.is at c.in_ok-n.ensures.read).0 c.in_ok-n.ensures.later c.if-ended.false c.loop-left.invariant.unended
-    (c.loop-left.invariant.unended, rw c.in-NotYet.is at c.in_ok-n.ensures.arrived, rose-before _ _ _ c.loop-left.invariant.so_far.later.idle_reads (rw c.in-NotYet.is at c.in_ok-n.ensures.cause))
-    (fewer _ _ c.loop-left.invariant.so_far.count c.loop-left-test.true)
+    let k = rw c.in-NotYet.is at c.in_ok-n.ensures.read in
+    let m = room-as _ _ _ _ _ _ _ _ _ _ _ c.as_slice.ensures c.in_ok-give.ensures in
+    record {
+      takes = stops _ _ _ _ _ _ _ _ _ _ _ _ _ _ c.loop-left.invariant.so_far k.0 c.in_ok-n.ensures.later c.if-ended.false c.loop-left.invariant.unended
+          (c.loop-left.invariant.unended, rw c.in-NotYet.is at c.in_ok-n.ensures.arrived, rose-before _ _ _ c.loop-left.invariant.so_far.later.idle_reads (rw c.in-NotYet.is at c.in_ok-n.ensures.cause))
+          (fewer _ _ c.loop-left.invariant.so_far.count c.loop-left-test.true);
+      rest = m.rest;
+      sends = nothing-read _ _ _ _ _ _ _ _ _ _ _ k.0.after' (room-on _ _ _ _ _ _ _ _ _ _ _ _ _ c.loop-left.invariant.sends m);
+      why = refl;
+      room = λ e. absurd (cc);
+    }
 
 pub returns-in-Failed : goal.returns-in-Failed
 returns-in-Failed g c =
     let k = rw c.in-Failed.is at c.in_ok-n.ensures.read in
-    stops _ _ _ _ _ _ _ _ _ _ _ _ _ _ c.loop-left.invariant.so_far k.0 c.in_ok-n.ensures.later c.if-ended.false c.loop-left.invariant.unended
-    (c.loop-left.invariant.unended, ap (λ (z : Told). z.unfailing) k.0.told' ∙ k.1, rose-before _ _ _ c.loop-left.invariant.so_far.later.faults (rw c.in-Failed.is at c.in_ok-n.ensures.cause))
-    (fewer _ _ c.loop-left.invariant.so_far.count c.loop-left-test.true)
+    let m = room-as _ _ _ _ _ _ _ _ _ _ _ c.as_slice.ensures c.in_ok-give.ensures in
+    record {
+      takes = stops _ _ _ _ _ _ _ _ _ _ _ _ _ _ c.loop-left.invariant.so_far k.0 c.in_ok-n.ensures.later c.if-ended.false c.loop-left.invariant.unended
+          (c.loop-left.invariant.unended, ap (λ (z : Told). z.unfailing) k.0.told' ∙ k.1, rose-before _ _ _ c.loop-left.invariant.so_far.later.faults (rw c.in-Failed.is at c.in_ok-n.ensures.cause))
+          (fewer _ _ c.loop-left.invariant.so_far.count c.loop-left-test.true);
+      rest = m.rest;
+      sends = nothing-read _ _ _ _ _ _ _ _ _ _ _ k.0.after' (room-on _ _ _ _ _ _ _ _ _ _ _ _ _ c.loop-left.invariant.sends m);
+      why = refl;
+      room = λ e. absurd (cc);
+    }
 
 pub returns : goal.returns
-returns g c = fills-quantum _ _ _ _ _ _ _ _ _ _ c.loop-left.invariant.so_far c.loop-left-test.false c.if-ended.false c.loop-left.invariant.unended
+returns g c = record {
+  takes = fills-quantum _ _ _ _ _ _ _ _ _ _ c.loop-left.invariant.so_far c.loop-left-test.false c.if-ended.false c.loop-left.invariant.unended;
+  rest = c.loop-left.invariant.sends.rest;
+  sends = c.loop-left.invariant.sends.sends;
+  why = refl;
+  room = λ e. absurd (cc);
+}

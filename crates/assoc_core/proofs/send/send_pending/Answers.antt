@@ -1,4 +1,4 @@
-use Rattle.std.proofs.Common.{take, drop}
+use Rattle.std.proofs.Common.{take, drop, ap}
 use Rattle.std.proofs.lemmas.List.{take-append-drop}
 use Rattle.assoc_core.proofs.send.send_pending.Goals as goal
 
@@ -9,6 +9,7 @@ returns g c = record {
   pending' = take-append-drop c.send_all-n.result.0 c.args.pending.now;
   after' = let i = c.in-Ok.ensures.items in cc (i, c.from_vec-2.ensures, c.reserve.ensures.items, c.replace.ensures.value, c.into_vec-held.ensures);
   told' = c.send_all-n.ensures.told;
+  stuck = λ e. ap (λ n. take n c.args.pending.now) (c.send_all-n.ensures.stuck e);
   later = c.send_all-n.ensures.later;
   ends = c.send_all-n.ensures.ends;
 }
