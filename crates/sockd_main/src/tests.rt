@@ -8,6 +8,7 @@ mod failures;
 mod logins;
 mod moments;
 mod names;
+mod narrow;
 mod refusals;
 mod relays;
 mod rows;

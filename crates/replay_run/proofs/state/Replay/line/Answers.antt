@@ -18,6 +18,9 @@ client_end-requires c = record { due = due-as c.args.line.now _ c.args.self.now 
 pub target_end-requires : goal.target_end-requires
 target_end-requires c = record { due = due-as c.args.line.now _ c.args.self.now (c.in-TargetEnd.is) c.requires.due }
 
+pub room-requires : goal.room-requires
+room-requires c = record { due = due-as c.args.line.now _ c.args.self.now (c.in-Room.is) c.requires.due }
+
 pub lookup-requires : goal.lookup-requires
 lookup-requires c = record { due = due-as c.args.line.now _ c.args.self.now (c.in-Lookup.is) c.requires.due }
 
