@@ -5,7 +5,7 @@ use Rattle.half_close_relay.specs.declared.pumped.Side.{Side}
 use Rattle.half_close_relay.specs.Ways.{Way, Moves, Seen, Failed, SinkRests, ReadIsDue, SinkIsDue}
 use Rattle.half_close_relay.specs.Pumping.{Relaying, BothShut, RoundEnds, Pumps, PumpEnds}
 
--- a direction that takes in nothing more than its state says
+-- a direction by its fields
 abbrev way : List ℕ → Bool → Bool → ℕ → ℕ → Way
 way waiting ended shut took sent = record { waiting = waiting; ended = ended; shut = shut; took = took; sent = sent }
 
