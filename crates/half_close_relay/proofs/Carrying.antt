@@ -66,16 +66,16 @@ carries-halted left was now source source' sink halt h = record {
   early = h.early;
   gives = h.gives;
   takes = record { told' = takes-nothing sink.told; later = later-same sink.counts };
-  why = ends halt h.why (h.open_still halt refl);
+  why = ends halt h.why;
 }
   where
-    ends : (halt : Halt) → TakeEnds left now source source' h.given (Err halt) → now.shut ≡ false → CarryEnds left now source source' sink sink h.given (Err halt)
-    ends Halt.Source z e = (z, e)
-    ends Halt.Sink z e = absurd z
-    ends Halt.Memory z e = (z, e)
+    ends : (halt : Halt) → TakeEnds left was now source source' h.given (Err halt) → CarryEnds left was now source source' sink sink h.given (Err halt)
+    ends Halt.Source z = (z.0, z.1, refl)
+    ends Halt.Sink z = absurd z
+    ends Halt.Memory z = (z, refl)
 
 carries : {A : Type 0} (left n : ℕ) (was mid now : Way) (source source' sink sink' : Seen) (sending : Result A Halt) (outcome : Result ℕ Halt) → (h : TakesPiece left was mid source source' (Ok n)) → SendsOn mid now sink sink' sending
-    → CarryEnds left now source source' sink sink' h.given outcome → Carries left was now source source' sink sink' outcome
+    → CarryEnds left was now source source' sink sink' h.given outcome → Carries left was now source source' sink sink' outcome
 carries left n was mid now source source' sink sink' sending outcome h k why = record {
   move = record { given = h.given; sent = k.sent; ends = h.ends; shuts = k.shuts };
   moves = moves-both was mid now h.given k.sent h.ends k.shuts h.now' h.silent k.waiting' k.now' k.once k.due;
@@ -98,7 +98,7 @@ pub carries-unsent : {A : Type 0} (left n : ℕ) (was mid now : Way) (source sou
     → Carries left was now source source' sink sink' (Err halt)
 carries-unsent {A = A} left n was mid now source source' sink sink' halt h k = carries left n was mid now source source' sink sink' (Err halt) (Err halt) h k (ends halt k.why)
   where
-    ends : (halt : Halt) → GiveEnds {A = A} now sink sink' (Err halt) → CarryEnds left now source source' sink sink' h.given (Err halt)
+    ends : (halt : Halt) → GiveEnds {A = A} now sink sink' (Err halt) → CarryEnds left was now source source' sink sink' h.given (Err halt)
     ends Halt.Source z = absurd z
     ends Halt.Sink z = z
     ends Halt.Memory z = absurd z

@@ -4,7 +4,7 @@ use Rattle.net_ends.specs.Told.{Told}
 use Rattle.half_close_relay.specs.declared.per_side.PerSide.{PerSide}
 use Rattle.half_close_relay.specs.declared.pumped.Pumped.{Pumped}
 use Rattle.half_close_relay.specs.declared.pumped.Side.{Side}
-use Rattle.half_close_relay.specs.Ways.{Way, Move, Moves, Seen, total, after_giving, after_taking}
+use Rattle.half_close_relay.specs.Ways.{Way, Move, Moves, Seen, total, after_giving, after_taking, ReadIsDue, Untaken}
 use Rattle.half_close_relay.specs.Pumping.{Relaying, Serves, Relays, AtRest, Rounds, RoundEnds, BothShut, Pumps, PumpEnds, Flushes, FlushEnds, IsSilent, quantum}
 use Rattle.half_close_relay.proofs.Sums.{more-nil, more-more, or-or, later-same, later-on, keeps-same, keeps-on, total-total}
 use Rattle.half_close_relay.proofs.Carrying.{failed-after, sink-before, source-before}
@@ -141,6 +141,13 @@ pumps taken left_c left_t was now client client' target target' answer h why = r
 same-unfailing : (f t : Move) (a b : Seen) → Serves f t a b → b.told.unfailing ≡ a.told.unfailing
 same-unfailing f t a b h = ap (λ (z : Told). z.unfailing) h.told'
 
+read-due : (left : ℕ) (was now : Way) (given : List ℕ) → Untaken left was now given → ReadIsDue (left - length given) now
+read-due left was now given h = record { unended = ap (λ (w : Way). w.ended) h.same ∙ h.unended; some = omega (arith, h.some, ap length h.nothing) }
+
+of-either : {A B C D : Type 0} → (A → C) → (B → D) → A ⊎ B → C ⊎ D
+of-either f g (inl x) = inl (f x)
+of-either f g (inr x) = inr (g x)
+
 -- a round halted
 pub halts : (taken left_c left_t : ℕ) (a b c : Relaying) (client client' client'' target target' target'' : Seen) (answer : Pumped) → SoFar taken left_c left_t a b client client' target target'
     → Rounds left_c left_t b c client' client'' target' target'' (Err answer) → Pumps taken a c client client'' target target'' answer
@@ -148,14 +155,20 @@ halts taken left_c left_t a b c client client' client'' target target' target'' 
     pumps taken (left_c - length k.up.given) (left_t - length k.down.given) a c client client'' target target'' answer
     (goes-on taken left_c left_t (left_c - length k.up.given) (left_t - length k.down.given) a b c client client' client'' target target' target'' (Err answer) h k (omega (arith, k.within_c)) (omega (arith, k.within_t))) (ends answer k.why)
   where
-    ends : (answer : Pumped) → RoundEnds left_c left_t c client' client'' target' target'' k.up.given k.down.given (Err answer)
+    ends : (answer : Pumped) → RoundEnds left_c left_t b c client' client'' target' target'' k.up.given k.down.given (Err answer)
         → PumpEnds (left_c - length k.up.given) (left_t - length k.down.given) c client client'' target target'' answer
     ends Pumped.Moved z = absurd z
     ends Pumped.Idle z = absurd z
     ends Pumped.Ended z = absurd z
-    ends (Pumped.Fault Side.Client) z = failed-after client client' client'' h.relays.client_serves.later (same-unfailing h.up h.down client client' h.relays.client_serves) z.0
-    ends (Pumped.Fault Side.Target) z = failed-after target target' target'' h.relays.target_serves.later (same-unfailing h.down h.up target target' h.relays.target_serves) z.0
-    ends Pumped.Memory z = tt
+    ends (Pumped.Fault Side.Client) z = (
+      failed-after client client' client'' h.relays.client_serves.later (same-unfailing h.up h.down client client' h.relays.client_serves) z.0,
+      of-either (λ x. read-due _ _ _ _ x.0) (λ x. x) z.2,
+    )
+    ends (Pumped.Fault Side.Target) z = (
+      failed-after target target' target'' h.relays.target_serves.later (same-unfailing h.down h.up target target' h.relays.target_serves) z.0,
+      of-either (λ x. x) (λ x. read-due _ _ _ _ x) z.2,
+    )
+    ends Pumped.Memory z = of-either (λ x. read-due _ _ _ _ x) (λ x. read-due _ _ _ _ x) z.1
 
 -- the last round took nothing
 pub rests : (taken left_c left_t : ℕ) (a b c : Relaying) (client client' client'' target target' target'' : Seen) (took : PerSide) (answer : Pumped) → SoFar taken left_c left_t a b client client' target target'
@@ -215,16 +228,27 @@ flushes was now client client' target target' outcome answer h why = record {
   why = why;
 }
 
+never : (was now : Way) (given : List ℕ) → Untaken 0 was now given → ⊥
+never was now given h = omega (arith, h.some)
+
+of-one : {A B : Type 0} → (B → ⊥) → A ⊎ B → A
+of-one none (inl x) = x
+of-one none (inr x) = absurd (none x)
+
+of-other : {A B : Type 0} → (A → ⊥) → A ⊎ B → B
+of-other none (inl x) = absurd (none x)
+of-other none (inr x) = x
+
 pub flush-halts : (was now : Relaying) (client client' target target' : Seen) (answer : Pumped) → Rounds 0 0 was now client client' target target' (Err answer) → Flushes was now client client' target target' answer
 flush-halts was now client client' target target' answer h = flushes was now client client' target target' (Err answer) answer h (ends answer h.why)
   where
-    ends : (answer : Pumped) → RoundEnds 0 0 now client client' target target' h.up.given h.down.given (Err answer) → FlushEnds now client client' target target' answer
+    ends : (answer : Pumped) → RoundEnds 0 0 was now client client' target target' h.up.given h.down.given (Err answer) → FlushEnds now client client' target target' answer
     ends Pumped.Moved z = z
     ends Pumped.Idle z = absurd z
     ends Pumped.Ended z = absurd z
-    ends (Pumped.Fault Side.Client) z = z.0
-    ends (Pumped.Fault Side.Target) z = z.0
-    ends Pumped.Memory z = omega (arith, z.0)
+    ends (Pumped.Fault Side.Client) z = (z.0, of-other (λ x. never _ _ _ x.0) z.2)
+    ends (Pumped.Fault Side.Target) z = (z.0, of-one (λ x. never _ _ _ x) z.2)
+    ends Pumped.Memory z = never _ _ _ (of-one (λ x. never _ _ _ x) z.1)
 
 pub flush-rests : (was now : Relaying) (client client' target target' : Seen) (took : PerSide) (answer : Pumped) → Rounds 0 0 was now client client' target target' (Ok took)
     → (AtRest 0 0 now client client' target target' → FlushEnds now client client' target target' answer) → Flushes was now client client' target target' answer
@@ -236,10 +260,10 @@ pub open-still : (left_c left_t : ℕ) (was now : Relaying) (client client' targ
     → ((answer ≡ Pumped.Ended) → BothShut now) × (BothShut now → answer ≡ Pumped.Ended)
 open-still left_c left_t was now client client' target target' answer h = ends answer h.why
   where
-    ends : (answer : Pumped) → RoundEnds left_c left_t now client client' target target' h.up.given h.down.given (Err answer) → ((answer ≡ Pumped.Ended) → BothShut now) × (BothShut now → answer ≡ Pumped.Ended)
+    ends : (answer : Pumped) → RoundEnds left_c left_t was now client client' target target' h.up.given h.down.given (Err answer) → ((answer ≡ Pumped.Ended) → BothShut now) × (BothShut now → answer ≡ Pumped.Ended)
     ends Pumped.Moved z = absurd z
     ends Pumped.Idle z = absurd z
     ends Pumped.Ended z = absurd z
     ends (Pumped.Fault Side.Client) z = (λ e. absurd (cc), λ both. absurd (z.1 both))
     ends (Pumped.Fault Side.Target) z = (λ e. absurd (cc), λ both. absurd (z.1 both))
-    ends Pumped.Memory z = (λ e. absurd (cc), λ both. absurd (z.1 both))
+    ends Pumped.Memory z = (λ e. absurd (cc), λ both. absurd (z.0 both))

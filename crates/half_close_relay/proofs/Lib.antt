@@ -4,3 +4,4 @@ mod Carrying
 mod Rounding
 mod Going
 mod Rows
+mod Wrong

@@ -6,7 +6,7 @@ use Rattle.net_ends.specs.declared.link.Reading.{Reading}
 use Rattle.net_ends.specs.Told.{Told, GivesArrived, after_read}
 use Rattle.net_ends.specs.Counts.{Later}
 use Rattle.half_close_relay.specs.declared.halt.Halt.{Halt}
-use Rattle.half_close_relay.specs.Ways.{Way, Seen, Gives, TakesPiece, TakeEnds, KeepsArrival}
+use Rattle.half_close_relay.specs.Ways.{Way, Seen, Gives, TakesPiece, TakeEnds, Untaken, KeepsArrival}
 use Rattle.half_close_relay.proofs.Sums.{gives-nothing, more-nil, later-same, keeps-same}
 
 pub gives-same : (old new : Seen) → new.told ≡ old.told → Later old.counts new.counts → Gives [] false old new
@@ -17,9 +17,9 @@ gives-same old new e later = record {
 }
 
 -- nothing came
-pub stops : (left : ℕ) (was : Way) (after : List ℕ) (old new : Seen) (outcome : Result ℕ Halt) → after ≡ was.waiting → Gives [] false old new → TakeEnds left was old new [] outcome
-    → ((halt : Halt) → outcome ≡ Err halt → was.shut ≡ false) → TakesPiece left was (record was { waiting = after }) old new outcome
-stops left was after old new outcome e gives why unshut = record {
+pub stops : (left : ℕ) (was : Way) (after : List ℕ) (old new : Seen) (outcome : Result ℕ Halt) → after ≡ was.waiting → Gives [] false old new → TakeEnds left was was old new [] outcome
+    → TakesPiece left was (record was { waiting = after }) old new outcome
+stops left was after old new outcome e gives why = record {
   given = [];
   ends = false;
   now' = λ i. record was { waiting = (e ∙ sym (append-nil was.waiting)) i };
@@ -28,18 +28,24 @@ stops left was after old new outcome e gives why unshut = record {
   early = λ h. cc;
   gives = gives;
   why = ends outcome why;
-  open_still = unshut;
 }
   where
-    ends : (outcome : Result ℕ Halt) → TakeEnds left was old new [] outcome → TakeEnds left (record was { waiting = after }) old new [] outcome
+    untaken : Untaken left was was [] → Untaken left was (record was { waiting = after }) []
+    untaken h = record { same = λ i. record was { waiting = e i }; nothing = refl; unended = h.unended; unshut = h.unshut; some = h.some }
+
+    ends : (outcome : Result ℕ Halt) → TakeEnds left was was old new [] outcome → TakeEnds left was (record was { waiting = after }) old new [] outcome
     ends (Ok n) h = (h.0, λ z. record { idle = (h.1 z).idle })
-    ends (Err Halt.Source) h = h
+    ends (Err Halt.Source) h = (h.0, untaken h.1)
     ends (Err Halt.Sink) h = h
-    ends (Err Halt.Memory) h = h
+    ends (Err Halt.Memory) h = untaken h
+
+-- nothing could be read of a source that may be read
+pub unmoved : (left : ℕ) (way : Way) → way.ended ≡ false → way.shut ≡ false → 0 < left → Untaken left way way []
+unmoved left way unended unshut some = record { same = refl; nothing = refl; unended = unended; unshut = unshut; some = some }
 
 -- nothing was read of a source that has ended, or of which nothing more may be read
 pub unread : (left : ℕ) (way : Way) (s : Seen) → (way.ended ≡ true) ⊎ ((way.ended ≡ false) × (left ≡ 0)) → TakesPiece left way way s s (Ok 0)
-unread left way s h = stops left way way.waiting s s (Ok 0) refl (gives-same s s refl (later-same s.counts)) (refl, λ z. record { idle = λ e some. absurd (clash h e some) }) (λ halt e. cc)
+unread left way s h = stops left way way.waiting s s (Ok 0) refl (gives-same s s refl (later-same s.counts)) (refl, λ z. record { idle = λ e some. absurd (clash h e some) })
   where
     clash : (way.ended ≡ true) ⊎ ((way.ended ≡ false) × (left ≡ 0)) → way.ended ≡ false → 0 < left → ⊥
     clash (inl a) e some = cc
@@ -76,7 +82,6 @@ ends-here left was after old new e unended some told later arrived = record {
     };
   };
   why = (refl, λ z. record { idle = λ h. cc });
-  open_still = λ halt h. cc;
 }
   where
     clash : (b : Bool) → b ≡ true → b ≡ false → ⊥

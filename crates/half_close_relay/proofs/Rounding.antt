@@ -1,12 +1,12 @@
 -- How the two directions add up to a round.
-use Rattle.std.proofs.Common.{◌≡◌, ℕ, Bool, true, false, Result, Ok, Err, List, [], refl, ap, sym, subst, ◌∙◌, arith}
+use Rattle.std.proofs.Common.{◌≡◌, ℕ, Bool, true, false, Result, Ok, Err, inl, inr, List, [], refl, ap, sym, subst, ◌∙◌, arith}
 use Rattle.std.proofs.lemmas.List.{append-nil}
 use Rattle.net_ends.specs.Told.{Told}
 use Rattle.half_close_relay.specs.declared.halt.Halt.{Halt}
 use Rattle.half_close_relay.specs.declared.pumped.Pumped.{Pumped}
 use Rattle.half_close_relay.specs.declared.pumped.Side.{Side}
 use Rattle.half_close_relay.specs.Halts.{answer_of}
-use Rattle.half_close_relay.specs.Ways.{Way, Move, Moves, Seen, KeepsArrival, Gives, Takes, SourceRests, SinkRests, IsIdle, IsFull, Carries, CarryEnds, after_giving, after_taking}
+use Rattle.half_close_relay.specs.Ways.{Way, Move, Moves, Seen, KeepsArrival, Gives, Takes, SourceRests, SinkRests, IsIdle, IsFull, Untaken, Carries, CarryEnds, after_giving, after_taking}
 use Rattle.half_close_relay.specs.Pumping.{Relaying, Serves, Relays, Rounds, RoundEnds}
 use Rattle.half_close_relay.proofs.Sums.{more-nil, later-same, later-on, rose-after, keeps-same, takes-nothing}
 use Rattle.half_close_relay.proofs.Carrying.{failed-after, sink-before, source-before}
@@ -60,6 +60,9 @@ not-both : (shut : Bool) → shut ≡ false → ((shut ≡ true) → ⊥)
 not-both true e h = cc
 not-both false e h = cc
 
+unshut : (left : ℕ) (was now : Way) (given : List ℕ) → Untaken left was now given → now.shut ≡ false
+unshut left was now given h = ap (λ (w : Way). w.shut) h.same ∙ h.unshut
+
 -- the client's direction halted
 pub rounds-up : (left_c left_t : ℕ) (was : Relaying) (up : Way) (client client' target target' : Seen) (halt : Halt) (answer : Pumped) → answer ≡ answer_of Side.Client Side.Target halt
     → Carries left_c was.up up client client' target target' (Err halt) → Rounds left_c left_t was (record { up = up; down = was.down }) client client' target target' (Err answer)
@@ -76,14 +79,14 @@ rounds-up left_c left_t was up client client' target target' halt answer is h = 
   within_t = omega arith;
   early_c = h.early;
   early_t = λ e. cc;
-  why = subst (λ (z : Pumped). RoundEnds left_c left_t (record { up = up; down = was.down }) client client' target target' h.move.given [] (Err z)) (sym is) (ends halt h.why);
+  why = subst (λ (z : Pumped). RoundEnds left_c left_t was (record { up = up; down = was.down }) client client' target target' h.move.given [] (Err z)) (sym is) (ends halt h.why);
 }
   where
-    ends : (halt : Halt) → CarryEnds left_c up client client' target target' h.move.given (Err halt)
-        → RoundEnds left_c left_t (record { up = up; down = was.down }) client client' target target' h.move.given [] (Err (answer_of Side.Client Side.Target halt))
-    ends Halt.Source z = (z.0, λ both. not-both up.shut z.1 both.0)
-    ends Halt.Sink z = (z.0, λ both. not-both up.shut z.1 both.0)
-    ends Halt.Memory z = (omega (arith, z.0), λ both. not-both up.shut z.1 both.0)
+    ends : (halt : Halt) → CarryEnds left_c was.up up client client' target target' h.move.given (Err halt)
+        → RoundEnds left_c left_t was (record { up = up; down = was.down }) client client' target target' h.move.given [] (Err (answer_of Side.Client Side.Target halt))
+    ends Halt.Source z = (z.0, λ both. not-both up.shut (unshut _ _ _ _ z.1) both.0, inl (z.1, refl, z.2))
+    ends Halt.Sink z = (z.0, λ both. not-both up.shut z.1.unshut both.0, inl z.1, refl)
+    ends Halt.Memory z = (λ both. not-both up.shut (unshut _ _ _ _ z.0) both.0, inl z.0, refl)
 
 relays-both : (left_c left_t : ℕ) (was : Relaying) (up down : Way) (client mid_c client' target mid_t target' : Seen) (first second : Result ℕ Halt)
     → (h : Carries left_c was.up up client mid_c target mid_t first) → (k : Carries left_t was.down down mid_t target' mid_c client' second)
@@ -107,14 +110,14 @@ rounds-down left_c left_t n was up down client mid_c client' target mid_t target
   within_t = k.within;
   early_c = h.early;
   early_t = k.early;
-  why = subst (λ (z : Pumped). RoundEnds left_c left_t (record { up = up; down = down }) client client' target target' h.move.given k.move.given (Err z)) (sym is) (ends halt k.why);
+  why = subst (λ (z : Pumped). RoundEnds left_c left_t was (record { up = up; down = down }) client client' target target' h.move.given k.move.given (Err z)) (sym is) (ends halt k.why);
 }
   where
-    ends : (halt : Halt) → CarryEnds left_t down mid_t target' mid_c client' k.move.given (Err halt)
-        → RoundEnds left_c left_t (record { up = up; down = down }) client client' target target' h.move.given k.move.given (Err (answer_of Side.Target Side.Client halt))
-    ends Halt.Source z = (failed-after target mid_t target' h.takes.later (ap (λ (t : Told). t.unfailing) h.takes.told') z.0, λ both. not-both down.shut z.1 both.1)
-    ends Halt.Sink z = (failed-after client mid_c client' h.gives.later (ap (λ (t : Told). t.unfailing) h.gives.told') z.0, λ both. not-both down.shut z.1 both.1)
-    ends Halt.Memory z = (omega (arith, z.0), λ both. not-both down.shut z.1 both.1)
+    ends : (halt : Halt) → CarryEnds left_t was.down down mid_t target' mid_c client' k.move.given (Err halt)
+        → RoundEnds left_c left_t was (record { up = up; down = down }) client client' target target' h.move.given k.move.given (Err (answer_of Side.Target Side.Client halt))
+    ends Halt.Source z = (failed-after target mid_t target' h.takes.later (ap (λ (t : Told). t.unfailing) h.takes.told') z.0, λ both. not-both down.shut (unshut _ _ _ _ z.1) both.1, inr z.1, z.1.same)
+    ends Halt.Sink z = (failed-after client mid_c client' h.gives.later (ap (λ (t : Told). t.unfailing) h.gives.told') z.0, λ both. not-both down.shut z.1.unshut both.1, inr z.1)
+    ends Halt.Memory z = (λ both. not-both down.shut (unshut _ _ _ _ z.0) both.1, inr z.0, z.0.same)
 
 -- both directions were carried
 pub rounds-both : (left_c left_t n m : ℕ) (was : Relaying) (up down : Way) (client mid_c client' target mid_t target' : Seen)

@@ -1,7 +1,7 @@
 -- Both directions of a relay: from the client to the target, and from the target to the client.
 use Rattle.std.specs.Prelude.{ℕ, ◌≡◌, ◌<◌, ◌≤◌, ◌+◌, ◌⊎◌, Bool, true, false, Result, Ok, Err, List, [], ◌∷◌, length}
 use Rattle.net_ends.specs.Counts.{Later}
-use Rattle.half_close_relay.specs.Ways.{Way, fresh_way, Move, Moves, Seen, KeepsArrival, after_giving, after_taking, Failed, SourceRests, SinkRests}
+use Rattle.half_close_relay.specs.Ways.{Way, fresh_way, Move, Moves, Seen, KeepsArrival, after_giving, after_taking, Failed, SourceRests, SinkRests, ReadIsDue, SinkIsDue, Untaken}
 use Rattle.half_close_relay.specs.declared.per_side.PerSide.{PerSide}
 use Rattle.half_close_relay.specs.declared.pumped.Pumped.{Pumped}
 use Rattle.half_close_relay.specs.declared.pumped.Side.{Side}
@@ -52,15 +52,19 @@ pub record AtRest (left_c left_t : ℕ) (now : Relaying) (client client' target 
 
 -- ---- one round over both directions
 
-abbrev pub RoundEnds : ℕ → ℕ → Relaying → Seen → Seen → Seen → Seen → List ℕ → List ℕ → Result PerSide Pumped → Type 0
-RoundEnds left_c left_t now client client' target target' up down (Ok took) =
+-- Behind a call of the first direction that failed, and where memory was refused, the second direction is as it was.
+abbrev pub RoundEnds : ℕ → ℕ → Relaying → Relaying → Seen → Seen → Seen → Seen → List ℕ → List ℕ → Result PerSide Pumped → Type 0
+RoundEnds left_c left_t was now client client' target target' up down (Ok took) =
     (length up ≡ took.client) × (length down ≡ took.target) × (took.client ≡ 0 → took.target ≡ 0 → AtRest left_c left_t now client client' target target')
-RoundEnds left_c left_t now client client' target target' up down (Err (Pumped.Fault Side.Client)) = Failed client client' × (BothShut now → ⊥)
-RoundEnds left_c left_t now client client' target target' up down (Err (Pumped.Fault Side.Target)) = Failed target target' × (BothShut now → ⊥)
-RoundEnds left_c left_t now client client' target target' up down (Err Pumped.Memory) = (0 < left_c + left_t) × (BothShut now → ⊥)
-RoundEnds left_c left_t now client client' target target' up down (Err Pumped.Moved) = ⊥
-RoundEnds left_c left_t now client client' target target' up down (Err Pumped.Idle) = ⊥
-RoundEnds left_c left_t now client client' target target' up down (Err Pumped.Ended) = ⊥
+RoundEnds left_c left_t was now client client' target target' up down (Err (Pumped.Fault Side.Client)) =
+    Failed client client' × (BothShut now → ⊥) × ((Untaken left_c was.up now.up up × (now.down ≡ was.down) × (target' ≡ target)) ⊎ SinkIsDue now.down)
+RoundEnds left_c left_t was now client client' target target' up down (Err (Pumped.Fault Side.Target)) =
+    Failed target target' × (BothShut now → ⊥) × (SinkIsDue now.up ⊎ Untaken left_t was.down now.down down) × (now.down ≡ was.down)
+RoundEnds left_c left_t was now client client' target target' up down (Err Pumped.Memory) =
+    (BothShut now → ⊥) × (Untaken left_c was.up now.up up ⊎ Untaken left_t was.down now.down down) × (now.down ≡ was.down)
+RoundEnds left_c left_t was now client client' target target' up down (Err Pumped.Moved) = ⊥
+RoundEnds left_c left_t was now client client' target target' up down (Err Pumped.Idle) = ⊥
+RoundEnds left_c left_t was now client client' target target' up down (Err Pumped.Ended) = ⊥
 
 pub record Rounds (left_c left_t : ℕ) (was now : Relaying) (client client' target target' : Seen) (outcome : Result PerSide Pumped) : Type 0 where
   pub up : Move
@@ -70,17 +74,18 @@ pub record Rounds (left_c left_t : ℕ) (was now : Relaying) (client client' tar
   pub within_t : length down.given ≤ left_t
   pub early_c : up.ends ≡ true → length up.given < left_c
   pub early_t : down.ends ≡ true → length down.given < left_t
-  pub why : RoundEnds left_c left_t now client client' target target' up.given down.given outcome
+  pub why : RoundEnds left_c left_t was now client client' target target' up.given down.given outcome
 
 -- ---- the calls
 
+-- a fault comes of a call that was due, and memory is asked for a read that was
 abbrev pub PumpEnds : ℕ → ℕ → Relaying → Seen → Seen → Seen → Seen → Pumped → Type 0
 PumpEnds left_c left_t now client client' target target' Pumped.Moved = AtRest left_c left_t now client client' target target' × ((left_c ≡ 0) ⊎ (left_t ≡ 0))
 PumpEnds left_c left_t now client client' target target' Pumped.Idle = AtRest left_c left_t now client client' target target' × (0 < left_c) × (0 < left_t)
 PumpEnds left_c left_t now client client' target target' Pumped.Ended = BothShut now
-PumpEnds left_c left_t now client client' target target' (Pumped.Fault Side.Client) = Failed client client'
-PumpEnds left_c left_t now client client' target target' (Pumped.Fault Side.Target) = Failed target target'
-PumpEnds left_c left_t now client client' target target' Pumped.Memory = Unit {0}
+PumpEnds left_c left_t now client client' target target' (Pumped.Fault Side.Client) = Failed client client' × (ReadIsDue left_c now.up ⊎ SinkIsDue now.down)
+PumpEnds left_c left_t now client client' target target' (Pumped.Fault Side.Target) = Failed target target' × (SinkIsDue now.up ⊎ ReadIsDue left_t now.down)
+PumpEnds left_c left_t now client client' target target' Pumped.Memory = ReadIsDue left_c now.up ⊎ ReadIsDue left_t now.down
 
 -- Of each side no more than a quantum is taken, for which bytes that were taken of the target before count. So many bytes
 -- are left of each; its end is read only where some are.
@@ -105,8 +110,8 @@ abbrev pub FlushEnds : Relaying → Seen → Seen → Seen → Seen → Pumped �
 FlushEnds now client client' target target' Pumped.Moved = ⊥
 FlushEnds now client client' target target' Pumped.Idle = SinkRests now.up target target' × SinkRests now.down client client'
 FlushEnds now client client' target target' Pumped.Ended = BothShut now
-FlushEnds now client client' target target' (Pumped.Fault Side.Client) = Failed client client'
-FlushEnds now client client' target target' (Pumped.Fault Side.Target) = Failed target target'
+FlushEnds now client client' target target' (Pumped.Fault Side.Client) = Failed client client' × SinkIsDue now.down
+FlushEnds now client client' target target' (Pumped.Fault Side.Target) = Failed target target' × SinkIsDue now.up
 FlushEnds now client client' target target' Pumped.Memory = ⊥
 
 pub record Flushes (was now : Relaying) (client client' target target' : Seen) (answer : Pumped) : Type 0 where

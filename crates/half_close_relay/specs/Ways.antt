@@ -104,13 +104,31 @@ pub record SinkRests (now : Way) (old new : Seen) : Type 0 where
   pub full : 0 < length now.waiting → IsFull new.told × Rose old.counts.idle_writes new.counts.idle_writes
   pub due : now.ended ≡ true → now.waiting ≡ [] → now.shut ≡ true
 
+-- a source may be read: it hasn't ended, and so many bytes may still be taken of it
+pub record ReadIsDue (left : ℕ) (way : Way) : Type 0 where
+  pub unended : way.ended ≡ false
+  pub some : 0 < left
+
+-- something is to be done at a sink: bytes wait, or it is to be shut
+pub record SinkIsDue (way : Way) : Type 0 where
+  pub unshut : way.shut ≡ false
+  pub due : way.waiting ≡ [] → way.ended ≡ true
+
+-- a source that may be read gave nothing, and its direction is as it was
+pub record Untaken (left : ℕ) (was now : Way) (given : List ℕ) : Type 0 where
+  pub same : now ≡ was
+  pub nothing : given ≡ []
+  pub unended : was.ended ≡ false
+  pub unshut : was.shut ≡ false
+  pub some : 0 < left
+
 -- ---- a piece from the source
 
-abbrev pub TakeEnds : ℕ → Way → Seen → Seen → List ℕ → Result ℕ Halt → Type 0
-TakeEnds left now old new given (Ok n) = (length given ≡ n) × (n ≡ 0 → SourceRests left now old new)
-TakeEnds left now old new given (Err Halt.Source) = Failed old new
-TakeEnds left now old new given (Err Halt.Sink) = ⊥
-TakeEnds left now old new given (Err Halt.Memory) = 0 < left
+abbrev pub TakeEnds : ℕ → Way → Way → Seen → Seen → List ℕ → Result ℕ Halt → Type 0
+TakeEnds left was now old new given (Ok n) = (length given ≡ n) × (n ≡ 0 → SourceRests left now old new)
+TakeEnds left was now old new given (Err Halt.Source) = Failed old new × Untaken left was now given
+TakeEnds left was now old new given (Err Halt.Sink) = ⊥
+TakeEnds left was now old new given (Err Halt.Memory) = Untaken left was now given
 
 -- a piece of at most so many bytes was taken, or the end, which is read only where bytes could be
 pub record TakesPiece (left : ℕ) (was now : Way) (old new : Seen) (outcome : Result ℕ Halt) : Type 0 where
@@ -121,15 +139,14 @@ pub record TakesPiece (left : ℕ) (was now : Way) (old new : Seen) (outcome : R
   pub within : length given ≤ left
   pub early : ends ≡ true → length given < left
   pub gives : Gives given ends old new
-  pub why : TakeEnds left now old new given outcome
-  pub open_still : (halt : Halt) → outcome ≡ Err halt → now.shut ≡ false
+  pub why : TakeEnds left was now old new given outcome
 
 -- ---- what waits, to the sink
 
 abbrev pub GiveEnds : {A : Type 0} → Way → Seen → Seen → Result A Halt → Type 0
 GiveEnds now old new (Ok done) = SinkRests now old new
 GiveEnds now old new (Err Halt.Source) = ⊥
-GiveEnds now old new (Err Halt.Sink) = Failed old new × (now.shut ≡ false)
+GiveEnds now old new (Err Halt.Sink) = Failed old new × SinkIsDue now
 GiveEnds now old new (Err Halt.Memory) = ⊥
 
 -- the first of what waits was sent, and the sink was shut where that was due
@@ -145,11 +162,12 @@ pub record SendsOn {A : Type 0} (was now : Way) (old new : Seen) (outcome : Resu
 
 -- ---- both
 
-abbrev pub CarryEnds : ℕ → Way → Seen → Seen → Seen → Seen → List ℕ → Result ℕ Halt → Type 0
-CarryEnds left now source source' sink sink' given (Ok n) = (length given ≡ n) × (n ≡ 0 → SourceRests left now source source') × SinkRests now sink sink'
-CarryEnds left now source source' sink sink' given (Err Halt.Source) = Failed source source' × (now.shut ≡ false)
-CarryEnds left now source source' sink sink' given (Err Halt.Sink) = Failed sink sink' × (now.shut ≡ false)
-CarryEnds left now source source' sink sink' given (Err Halt.Memory) = (0 < left) × (now.shut ≡ false)
+-- Behind a read that failed, and where memory was refused, the sink is as it was.
+abbrev pub CarryEnds : ℕ → Way → Way → Seen → Seen → Seen → Seen → List ℕ → Result ℕ Halt → Type 0
+CarryEnds left was now source source' sink sink' given (Ok n) = (length given ≡ n) × (n ≡ 0 → SourceRests left now source source') × SinkRests now sink sink'
+CarryEnds left was now source source' sink sink' given (Err Halt.Source) = Failed source source' × Untaken left was now given × (sink' ≡ sink)
+CarryEnds left was now source source' sink sink' given (Err Halt.Sink) = Failed sink sink' × SinkIsDue now
+CarryEnds left was now source source' sink sink' given (Err Halt.Memory) = Untaken left was now given × (sink' ≡ sink)
 
 -- one direction was carried: a piece of at most so many bytes from its source, and what waits to its sink
 pub record Carries (left : ℕ) (was now : Way) (source source' sink sink' : Seen) (outcome : Result ℕ Halt) : Type 0 where
@@ -159,4 +177,4 @@ pub record Carries (left : ℕ) (was now : Way) (source source' sink sink' : See
   pub early : move.ends ≡ true → length move.given < left
   pub gives : Gives move.given move.ends source source'
   pub takes : Takes move.sent move.shuts sink sink'
-  pub why : CarryEnds left now source source' sink sink' move.given outcome
+  pub why : CarryEnds left was now source source' sink sink' move.given outcome

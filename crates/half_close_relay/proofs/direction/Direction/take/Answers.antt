@@ -1,6 +1,6 @@
 use Rattle.std.proofs.Common.{refl, arith}
 use Rattle.half_close_relay.proofs.Sums.{later-same}
-use Rattle.half_close_relay.proofs.Pieces.{unread, stops, ends-here, gives-same, still-open}
+use Rattle.half_close_relay.proofs.Pieces.{unread, stops, unmoved, ends-here, gives-same, still-open}
 use Rattle.half_close_relay.proofs.direction.Direction.take.Goals as goal
 
 pub returns-then-self : goal.returns-then-self
@@ -8,15 +8,15 @@ returns-then-self g c = rw (← c.self.view_is) (unread _ _ _ c.then-self.either
 
 pub returns-then-is_err : goal.returns-then-is_err
 returns-then-is_err g c = rw (← c.self.view_is)
-    (stops _ _ _ _ _ _ c.reserve.ensures.items (gives-same _ _ refl (later-same _)) (omega (arith, c.if-left-eq0.false)) (λ halt h. still-open _ _ c.self.invariant c.if-self.false))
+    (stops _ _ _ _ _ _ c.reserve.ensures.items (gives-same _ _ refl (later-same _)) (unmoved _ _ c.if-self.false (still-open _ _ c.self.invariant c.if-self.false) (omega (arith, c.if-left-eq0.false))))
 
 pub returns-in-End : goal.returns-in-End
 returns-in-End g c = rw (← c.self.view_is) (ends-here _ _ _ _ _ c.reserve.ensures.items c.if-self.false (omega (arith, c.if-left-eq0.false)) c.in-End.ensures.told c.in-End.ensures.later c.in-End.ensures.arrived)
 
 pub returns-in-NotYet : goal.returns-in-NotYet
 returns-in-NotYet g c = rw (← c.self.view_is)
-    (stops _ _ _ _ _ _ c.reserve.ensures.items (gives-same _ _ c.in-NotYet.ensures.told c.in-NotYet.ensures.later) (refl, λ z. record { idle = λ e some. (c.in-NotYet.ensures.arrived, c.in-NotYet.ensures.cause) }) (λ halt h. cc))
+    (stops _ _ _ _ _ _ c.reserve.ensures.items (gives-same _ _ c.in-NotYet.ensures.told c.in-NotYet.ensures.later) (refl, λ z. record { idle = λ e some. (c.in-NotYet.ensures.arrived, c.in-NotYet.ensures.cause) }))
 
 pub returns-in-Failed : goal.returns-in-Failed
 returns-in-Failed g c = rw (← c.self.view_is)
-    (stops _ _ _ _ _ _ c.reserve.ensures.items (gives-same _ _ c.in-Failed.ensures.told c.in-Failed.ensures.later) (record { rose = c.in-Failed.ensures.cause; allowed = c.in-Failed.ensures.answer }) (λ halt h. still-open _ _ c.self.invariant c.if-self.false))
+    (stops _ _ _ _ _ _ c.reserve.ensures.items (gives-same _ _ c.in-Failed.ensures.told c.in-Failed.ensures.later) (record { rose = c.in-Failed.ensures.cause; allowed = c.in-Failed.ensures.answer }, unmoved _ _ c.if-self.false (still-open _ _ c.self.invariant c.if-self.false) (omega (arith, c.if-left-eq0.false))))

@@ -1,0 +1,104 @@
+-- Outcomes that the clauses refuse, each at small values.
+use Rattle.std.proofs.Common.{◌≡◌, ◌<◌, ◌+◌, ◌-◌, ◌^◌, ◌⊎◌, inl, inr, ℕ, Bool, true, false, Result, Err, List, [], ◌∷◌, length, refl, ap, arith}
+use Rattle.half_close_relay.specs.declared.pumped.Pumped.{Pumped}
+use Rattle.half_close_relay.specs.declared.pumped.Side.{Side}
+use Rattle.half_close_relay.specs.Ways.{Way, Moves, Seen, Failed, SinkRests, ReadIsDue, SinkIsDue}
+use Rattle.half_close_relay.specs.Pumping.{Relaying, BothShut, RoundEnds, Pumps, PumpEnds}
+
+-- a direction by its fields
+abbrev way : List ℕ → Bool → Bool → ℕ → ℕ → Way
+way waiting ended shut took sent = record { waiting = waiting; ended = ended; shut = shut; took = took; sent = sent }
+
+abbrev running : Way
+running = way [] false false 0 0
+
+abbrev over : Way
+over = way [] true true 0 0
+
+-- the sink took 1, which waits still
+doubled : Moves (way (1 ∷ 2 ∷ []) false false 0 0) (way (1 ∷ 2 ∷ []) false false 0 1) (record { given = []; sent = 1 ∷ []; ends = false; shuts = false }) → ⊥
+doubled h = let e = h.kept in cc
+
+-- the source gave 2 while 1 waited, and 2 stands before it
+overtaken : Moves (way (1 ∷ []) false false 0 0) (way (2 ∷ 1 ∷ []) false false 1 0) (record { given = 2 ∷ []; sent = []; ends = false; shuts = false }) → ⊥
+overtaken h = let e = h.kept in cc
+
+-- the source gave 7, and a byte that it didn't give waits behind that
+padded : Moves running (way (7 ∷ 0 ∷ []) false false 1 0) (record { given = 7 ∷ []; sent = []; ends = false; shuts = false }) → ⊥
+padded h = let e = h.kept in cc
+
+-- the sink took a byte that the source didn't give
+echoed : Moves running running (record { given = []; sent = 5 ∷ []; ends = false; shuts = false }) → ⊥
+echoed h = let e = h.kept in cc
+
+-- a source that has ended was read
+read-again : Moves (way [] true false 0 0) (way (3 ∷ []) true false 1 0) (record { given = 3 ∷ []; sent = []; ends = false; shuts = false }) → ⊥
+read-again h = let e = (h.silent refl).0 in cc
+
+-- an end that was read is forgotten, and one that wasn't is made up
+forgotten : Moves (way (1 ∷ []) false false 0 0) (way (1 ∷ []) false false 0 0) (record { given = []; sent = []; ends = true; shuts = false }) → ⊥
+forgotten h = let e = h.ended' in cc
+
+made-up : Moves running (way [] true false 0 0) (record { given = []; sent = []; ends = false; shuts = false }) → ⊥
+made-up h = let e = h.ended' in cc
+
+-- a sink is shut twice, and one counts as shut that wasn't
+shut-again : Moves over over (record { given = []; sent = []; ends = false; shuts = true }) → ⊥
+shut-again h = let e = h.once refl in cc
+
+unshut : Moves (way [] true false 0 0) (way [] true true 0 0) (record { given = []; sent = []; ends = false; shuts = false }) → ⊥
+unshut h = let e = h.shut' in cc
+
+-- a byte that waits counts as sent
+uncounted : Moves (way (1 ∷ 2 ∷ []) false false 0 0) (way (2 ∷ []) false false 0 2) (record { given = []; sent = 1 ∷ []; ends = false; shuts = false }) → ⊥
+uncounted h = let e = h.sent' in cc
+
+-- a sink that is to be shut and wasn't is at no rest
+undone : (sink sink' : Seen) → SinkRests (way [] true false 0 0) sink sink' → ⊥
+undone sink sink' h = let e = h.due refl refl in cc
+
+-- no call of the side failed
+unfailed : (side : Seen) → side.counts.faults < 2 ^ 64 - 1 → Failed side side → ⊥
+unfailed side some h = omega (arith, some, h.rose)
+
+-- one direction alone is over
+half : BothShut (record { up = over; down = running }) → ⊥
+half h = let e = h.1 in cc
+
+-- of the client more than a quantum was taken, and of the target a quantum behind a byte of the same turn
+past-c : (was now : Relaying) (client client' target target' : Seen) (answer : Pumped) → (h : Pumps 0 was now client client' target target' answer) → 65536 < length h.up.given → ⊥
+past-c was now client client' target target' answer h more = omega (arith, more, h.quantum_c)
+
+past-t : (was now : Relaying) (client client' target target' : Seen) (answer : Pumped) → (h : Pumps 1 was now client client' target target' answer) → length h.down.given ≡ 65536 → ⊥
+past-t was now client client' target target' answer h all = omega (arith, all, h.quantum_t)
+
+-- `Idle` where the client's quantum was taken, and `Moved` where some is left of both
+idle-behind-all : (left : ℕ) (now : Relaying) (client client' target target' : Seen) → PumpEnds 0 left now client client' target target' Pumped.Idle → ⊥
+idle-behind-all left now client client' target target' h = omega (arith, h.1)
+
+moved-before-all : (now : Relaying) (client client' target target' : Seen) → PumpEnds 1 1 now client client' target target' Pumped.Moved → ⊥
+moved-before-all now client client' target target' h = neither 1 1 (omega arith) (omega arith) h.1
+  where
+    neither : (n m : ℕ) → 0 < n → 0 < m → (n ≡ 0) ⊎ (m ≡ 0) → ⊥
+    neither n m some some' (inl e) = omega (arith, some, e)
+    neither n m some some' (inr e) = omega (arith, some', e)
+
+-- want of memory where both sides have ended
+no-read-due : (left_c left_t : ℕ) (client client' target target' : Seen)
+    → PumpEnds left_c left_t (record { up = way (1 ∷ []) true false 0 0; down = over }) client client' target target' Pumped.Memory → ⊥
+no-read-due left_c left_t client client' target target' (inl h) = let e = h.unended in cc
+no-read-due left_c left_t client client' target target' (inr h) = let e = h.unended in cc
+
+-- a fault of the client where it has ended, and nothing is to be sent to it
+no-call-due : (left_c left_t : ℕ) (client client' target target' : Seen)
+    → PumpEnds left_c left_t (record { up = way [] true false 0 0; down = running }) client client' target target' (Pumped.Fault Side.Client) → ⊥
+no-call-due left_c left_t client client' target target' h = neither h.1
+  where
+    neither : ReadIsDue left_c (way [] true false 0 0) ⊎ SinkIsDue running → ⊥
+    neither (inl x) = let e = x.unended in cc
+    neither (inr x) = let e = x.due refl in cc
+
+-- the target gave 5 behind a fault of its own in the other direction
+gone-on : (client client' target target' : Seen) → RoundEnds 9 9 (record { up = way (1 ∷ []) false false 0 0; down = running }) (record { up = way (1 ∷ []) false false 0 0; down = way [] false false 1 1 })
+    client client' target target' [] (5 ∷ []) (Err (Pumped.Fault Side.Target)) → ⊥
+gone-on client client' target target' h = let e = ap (λ (w : Way). w.took) h.3 in cc
