@@ -13,10 +13,8 @@ use Rattle.socks_machine.specs.declared.cause.StopBy.{StopBy}
 use Rattle.socks_machine.specs.declared.lines.Line.{Line}
 use Rattle.socks_machine.specs.declared.record.Record.{Record}
 use Rattle.socks_machine.specs.declared.world.NextMark.{NextMark}
-use Rattle.socks_machine.specs.declared.world.Object.{Object}
 use Rattle.socks_machine.specs.declared.world.Outer.{Outer}
 use Rattle.socks_machine.specs.declared.world.TurnEvent.{TurnEvent}
-use Rattle.socks_machine.specs.Basis.{Basis}
 use Rattle.socks_machine.specs.Calls.{Context, TurnResult, call_close, close_line, cause_of_shut}
 use Rattle.socks_machine.specs.Decisions.{reached_at}
 use Rattle.socks_machine.specs.History.{at_close}
@@ -26,18 +24,18 @@ use Rattle.socks_machine.specs.Replies.{RefusedAt, refusal}
 use Rattle.socks_machine.specs.Settle.{first_cause}
 use Rattle.socks_machine.specs.Socks.{socks}
 use Rattle.socks_machine.specs.Taking.{pipe_size}
-use Rattle.socks_machine.specs.Turn.{turn, aged, marked, timed_out, limit, is_late}
+use Rattle.socks_machine.specs.Turn.{turn, aged, marked, limit, is_late}
 use Rattle.assoc_core.specs.declared.assoc.Assoc.{Assoc}
 use Rattle.assoc_core.specs.declared.assoc.Ended.{Ended}
 use Rattle.assoc_core.specs.declared.assoc.Next.{Next}
 use Rattle.assoc_core.specs.declared.moment.Movement.{Movement}
 use Rattle.assoc_core.specs.Closing.{Closed}
 use Rattle.assoc_core.specs.Moment.{movement, moment, at_moment, limit_of, is_late_by, cause_by}
-use Rattle.assoc_core.specs.Plain.{IsPlainRecord, owed_c, owed_t, opening_owed, refused_at, plain_to_client}
+use Rattle.assoc_core.specs.Plain.{owed_c, owed_t, opening_owed, refused_at, plain_to_client}
 use Rattle.assoc_core.specs.Stands.{GoesDirect, Holds, HoldsTarget, EndsBehind, GivesFirst}
-use Rattle.assoc_core.specs.Turns.{Acts, Turns, Unread, ReadsEnd, StopsReading, GoesOn, event_of, context, links, mark_of, left_of, IsIdle, IsFull, IsThereAnd, SameOutside, SameTarget, DialsAre, LookupsAre, PlanStays, IsOuterOf}
-use Rattle.assoc_core.proofs.Lateness.{waits-uncalled, CalledNothing, IsLate, turns-late, cause_late, closed_at}
-use Rattle.assoc_core.proofs.Moments.{Fits, turns-at, remade, event_at}
+use Rattle.assoc_core.specs.Turns.{Acts, Turns, GoesOn, event_of, context, mark_of, left_of, IsIdle, IsFull, IsThereAnd, SameOutside, SameTarget, DialsAre, LookupsAre, PlanStays, IsOuterOf}
+use Rattle.assoc_core.proofs.Lateness.{waits-uncalled, CalledNothing, turns-late, cause_late}
+use Rattle.assoc_core.proofs.Moments.{turns-at}
 use Rattle.assoc_core.proofs.Movements.{Moves, aged-moment, late-is, limit-is, plain-dated}
 use Rattle.assoc_core.proofs.RelayRecords.{plain-tcp}
 use Rattle.assoc_core.proofs.TalkTurns.{stops-as}

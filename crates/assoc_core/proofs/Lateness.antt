@@ -1,8 +1,6 @@
 -- A turn that waits at the moment of the last movement, and is late at another one: it closes there.
-use Rattle.std.proofs.Common.{◌≡◌, ℕ, zero, suc, Bool, true, false, ◌&&◌, ◌||◌, not, if◌then◌else◌, Option, Some, None, List, [], refl, sym, ap, subst, ◌∙◌, is_some, is_none}
+use Rattle.std.proofs.Common.{◌≡◌, ℕ, zero, suc, Bool, true, false, ◌&&◌, ◌||◌, not, if◌then◌else◌, Option, Some, None, List, refl, sym, ap, ◌∙◌, is_some, is_none}
 use Rattle.socks_machine.specs.declared.cause.Cause.{Cause}
-use Rattle.socks_machine.specs.declared.cause.StopBy.{StopBy}
-use Rattle.socks_machine.specs.declared.lines.Line.{Line}
 use Rattle.socks_machine.specs.declared.record.Record.{Record}
 use Rattle.socks_machine.specs.declared.world.NextMark.{NextMark}
 use Rattle.socks_machine.specs.declared.world.Object.{Object}
@@ -13,9 +11,9 @@ use Rattle.socks_machine.specs.Decisions.{is_opened}
 use Rattle.socks_machine.specs.Phase.{phase}
 use Rattle.socks_machine.specs.Settle.{first_cause}
 use Rattle.socks_machine.specs.Taking.{◌>>=◌, taken}
-use Rattle.socks_machine.specs.Turn.{turn, aged, output, fault_fits, with_fault, with_sent, with_shut, ended, is_answer, Calling, marked, with_record, after_call, after_none, without_call, may_output, makes_call, uncalled, close_is_due, times_out, timed_out, close_with, limit, is_late, rests, took_quantum, nothing_pending, is_quiet, is_mute, sources_rest, sinks_rest, sides_rest}
+use Rattle.socks_machine.specs.Turn.{turn, aged, output, fault_fits, with_fault, with_sent, with_shut, ended, is_answer, Calling, marked, with_record, after_call, without_call, may_output, makes_call, uncalled, close_is_due, times_out, timed_out, close_with, limit, is_late, rests, took_quantum, nothing_pending, is_quiet, is_mute, sources_rest, sinks_rest, sides_rest}
 use Rattle.assoc_core.specs.Turns.{Acts, event_of}
-use Rattle.assoc_core.proofs.Moments.{Leads, lead-unless, lead-if, lead-behind, lead-output, event_at, some-is, answer_by, waits_by, aged-anew, is_desk, close-none}
+use Rattle.assoc_core.proofs.Moments.{Leads, lead-unless, lead-if, lead-behind, lead-output, event_at, some-is, answer_by, waits_by, aged-anew}
 
 -- ---- what a step tells that gives something
 

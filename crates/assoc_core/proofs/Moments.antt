@@ -1,24 +1,21 @@
 -- A turn at another moment: what it does is the same, and only the moment that it leaves and its limit of time differ.
-use Rattle.std.proofs.Common.{◌≡◌, ℕ, zero, suc, ◌-◌, Bool, true, false, ◌&&◌, ◌||◌, ◌==◌, not, if◌then◌else◌, nat_le, Option, Some, None, List, [], refl, sym, ap, subst, ◌∙◌, length, is_some, is_none}
+use Rattle.std.proofs.Common.{◌≡◌, ℕ, ◌-◌, Bool, true, false, ◌&&◌, ◌||◌, not, if◌then◌else◌, Option, Some, None, List, refl, sym, ap, subst, ◌∙◌, is_some, is_none}
 use Rattle.socks_machine.specs.declared.cause.Cause.{Cause}
 use Rattle.socks_machine.specs.declared.cause.StopBy.{StopBy}
 use Rattle.socks_machine.specs.declared.lines.Line.{Line}
 use Rattle.socks_machine.specs.declared.record.Record.{Record}
 use Rattle.socks_machine.specs.declared.world.NextMark.{NextMark}
-use Rattle.socks_machine.specs.declared.world.Object.{Object}
 use Rattle.socks_machine.specs.declared.world.Outer.{Outer}
 use Rattle.socks_machine.specs.declared.world.TurnEvent.{TurnEvent}
 use Rattle.socks_machine.specs.Basis.{Basis}
-use Rattle.socks_machine.specs.Calls.{Context, TurnResult, call, call_close, cause_of_shut, close_line, is_calling}
+use Rattle.socks_machine.specs.Calls.{Context, TurnResult, call, call_close, cause_of_shut, close_line}
 use Rattle.socks_machine.specs.Decisions.{is_opened}
 use Rattle.socks_machine.specs.Equal.{mark_eq}
 use Rattle.socks_machine.specs.History.{at_close}
 use Rattle.socks_machine.specs.Phase.{phase, began}
-use Rattle.socks_machine.specs.Settle.{first_cause}
 use Rattle.socks_machine.specs.Taking.{◌>>=◌, taken}
-use Rattle.socks_machine.specs.Turn.{turn, aged, moves, output, fault_fits, with_fault, with_sent, with_shut, ended, answer_after, is_answer, Calling, marked, with_record, after_call, after_none, without_call, may_output, makes_call, proceed, uncalled, close_is_due, times_out, timed_out, close_with, limit, is_late, rests, rests_in, took_quantum, sources_rest, sinks_rest, sides_rest, nothing_pending, is_quiet, is_mute}
+use Rattle.socks_machine.specs.Turn.{turn, aged, moves, output, fault_fits, with_fault, with_sent, with_shut, ended, is_answer, Calling, marked, with_record, after_call, after_none, without_call, may_output, makes_call, uncalled, close_is_due, times_out, timed_out, close_with, is_late, rests, took_quantum, nothing_pending, is_quiet}
 use Rattle.assoc_core.specs.Turns.{Acts, event_of}
-use Rattle.assoc_core.proofs.PlainRecords.{and-false}
 use Rattle.assoc_core.proofs.Rests.{never-late}
 
 -- ---- where one step answers, so does another
@@ -175,22 +172,6 @@ lead-nothing s worker number m n x next old r =
     again = twice counts m n r.since
 
 -- ---- a turn that closes
-
--- an outcome of another call than the desk's closes nothing
-abbrev pub is_desk : Outer → Bool
-is_desk (Outer.Desk logged) = true
-is_desk _ = false
-
-pub close-none : (s : Context) (e : TurnEvent) (c : TurnResult) (cause : Option Cause) (outer : Outer) → is_desk outer ≡ false → close_with s e c cause outer ≡ None
-close-none s e c None outer h = refl
-close-none s e c (Some k) Outer.Nothing h = refl
-close-none s e c (Some k) (Outer.Desk logged) h = absurd (cc)
-close-none s e c (Some k) (Outer.Looked found) h = refl
-close-none s e c (Some k) (Outer.Up at) h = refl
-close-none s e c (Some k) Outer.Refused h = refl
-close-none s e c (Some k) Outer.HostUnreachable h = refl
-close-none s e c (Some k) Outer.NetUnreachable h = refl
-close-none s e c (Some k) Outer.Failed h = refl
 
 -- a close leaves the moment
 close-since : (s : Context) (e : TurnEvent) (c : TurnResult) (cause : Option Cause) (outer : Outer) (a : TurnResult) → close_with s e c cause outer ≡ Some a → a.left.since ≡ c.left.since

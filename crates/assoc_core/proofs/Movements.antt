@@ -1,22 +1,20 @@
 -- What has moved of an association, and what the machine says of its moment and its limit of time.
-use Rattle.std.proofs.Common.{◌≡◌, ℕ, zero, suc, ◌+◌, ◌==◌, Bool, true, false, ◌&&◌, ◌||◌, ◌-◌, not, if◌then◌else◌, nat_le, nat_lt, Option, Some, None, List, [], ◌∷◌, ◌++◌, refl, sym, ap, subst, ◌∙◌, length, length-append, is_some, option_and_then, arith, le-leb}
+use Rattle.std.proofs.Common.{◌≡◌, ℕ, zero, suc, ◌+◌, ◌==◌, Bool, true, false, ◌&&◌, ◌||◌, ◌-◌, not, if◌then◌else◌, nat_le, nat_lt, Option, Some, None, List, [], ◌∷◌, ◌++◌, refl, sym, ap, ◌∙◌, length, length-append, is_some, option_and_then, arith, le-leb}
 use Rattle.std.proofs.lemmas.Bool.{eq-eqb, ne_eqb}
 use Rattle.addr_pattern.specs.declared.endpoint.Endpoint.{Endpoint}
 use Rattle.conf_model.specs.declared.config.Config.{Config}
 use Rattle.conf_model.specs.declared.protocol.Command.{Command}
 use Rattle.conf_model.specs.declared.user.User.{User}
-use Rattle.socks_machine.specs.declared.record.Decision.{Decision}
 use Rattle.socks_machine.specs.declared.record.Record.{Record}
 use Rattle.socks_machine.specs.declared.world.NextMark.{NextMark}
 use Rattle.socks_machine.specs.Basis.{Basis}
 use Rattle.socks_machine.specs.Decisions.{Grant, granted, reached_at, peer_let_in}
 use Rattle.socks_machine.specs.Phase.{began, began_by, began_after_in, way, is_udp_grant}
-use Rattle.socks_machine.specs.Step.{fresh}
 use Rattle.socks_machine.specs.Taking.{some_in}
 use Rattle.socks_machine.specs.Turn.{aged, moves, limit, is_late}
 use Rattle.socks_machine.specs.View.{view, outcome_of_grant, outcome_with, proxy_of_grant}
 use Rattle.assoc_core.specs.Moment.{movement, same_bytes, moment, at_moment, limit_of, is_late_by}
-use Rattle.assoc_core.specs.Plain.{IsPlainRecord, HasDecided, HasAsked, Talking, Untargeted}
+use Rattle.assoc_core.specs.Plain.{IsPlainRecord, HasDecided, HasAsked, Untargeted}
 use Rattle.assoc_core.specs.Stands.{GoesDirect, IsConnect}
 use Rattle.assoc_core.specs.Turns.{Acts, event_of}
 use Rattle.assoc_core.proofs.PlainRecords.{decided-forms, has-judged, has-dialled}

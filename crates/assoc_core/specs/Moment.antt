@@ -1,12 +1,9 @@
 -- The moment of an association's last movement, and its limit of time.
-use Rattle.std.specs.Prelude.{ℕ, ◌-◌, ◌==◌, Bool, true, false, ◌&&◌, ◌||◌, not, nat_le, if◌then◌else◌, Option, Some, None, length, is_some}
+use Rattle.std.specs.Prelude.{ℕ, ◌-◌, ◌==◌, Bool, ◌&&◌, ◌||◌, not, nat_le, if◌then◌else◌, Option, Some, None, length, is_some}
 use Rattle.conf_model.specs.declared.config.Config.{Config}
 use Rattle.socks_machine.specs.declared.cause.Cause.{Cause}
 use Rattle.socks_machine.specs.declared.record.Record.{Record}
 use Rattle.socks_machine.specs.Decisions.{reached_at}
-use Rattle.assoc_core.specs.declared.assoc.Assoc.{Assoc}
-use Rattle.assoc_core.specs.declared.assoc.Ended.{Ended}
-use Rattle.assoc_core.specs.declared.assoc.Next.{Next}
 use Rattle.assoc_core.specs.declared.moment.Movement.{Movement}
 
 -- how many bytes were taken and sent so far, and whether the target was reached

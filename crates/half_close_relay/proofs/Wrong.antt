@@ -1,5 +1,5 @@
 -- Outcomes that the clauses refuse, each at small values.
-use Rattle.std.proofs.Common.{◌≡◌, ◌<◌, ◌+◌, ◌-◌, ◌^◌, ◌⊎◌, inl, inr, ℕ, Bool, true, false, Result, Err, List, [], ◌∷◌, length, refl, ap, arith}
+use Rattle.std.proofs.Common.{◌≡◌, ◌<◌, ◌-◌, ◌^◌, ◌⊎◌, inl, inr, ℕ, Bool, true, false, Err, List, [], ◌∷◌, length, refl, ap, arith}
 use Rattle.half_close_relay.specs.declared.pumped.Pumped.{Pumped}
 use Rattle.half_close_relay.specs.declared.pumped.Side.{Side}
 use Rattle.half_close_relay.specs.Ways.{Way, Moves, Seen, Failed, SinkRests, ReadIsDue, SinkIsDue}

@@ -1,5 +1,5 @@
 -- Which sides take nothing, behind a line that says how many bytes a write takes at most.
-use Rattle.std.proofs.Common.{ℕ, zero, suc, ◌≡◌, refl, sym, Bool, true, false, Option, Some, None, List, [], ◌∷◌}
+use Rattle.std.proofs.Common.{ℕ, zero, suc, ◌≡◌, refl, sym, true, false, Option, Some, None, List, [], ◌∷◌}
 use Rattle.socks_machine.specs.declared.world.Object.{Object}
 use Rattle.socks_machine.specs.Script.{room_for}
 use Rattle.socks_machine.specs.Taking.{holds}

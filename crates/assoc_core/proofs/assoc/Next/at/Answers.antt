@@ -1,6 +1,4 @@
-use Rattle.std.proofs.Common.{◌≡◌, refl, sym, ap, subst, ◌∙◌}
-use Rattle.net_ends.specs.Nets.{NetTold}
-use Rattle.assoc_core.specs.declared.assoc.Assoc.{Assoc}
+use Rattle.std.proofs.Common.{sym, subst, ◌∙◌}
 use Rattle.assoc_core.specs.declared.assoc.Next.{Next}
 use Rattle.assoc_core.specs.Turns.{Turns, context}
 use Rattle.assoc_core.proofs.Dating.{again-dated, done-dated, wait-dated, late-dated}
