@@ -82,10 +82,24 @@ fn outcome_of(ended: &Ended<MemLink>) -> Outcome {
     }
 }
 
+/// One turn, where the numbers of the rules and routes fit.
+fn turned(
+    alloc: Global,
+    assoc: Assoc<MemLink>,
+    config: &Config,
+    desk: &mut Desk,
+    net: &mut MemNet,
+) -> Option<Next<MemLink>> {
+    if config.client.len() > 9 || config.socks.len() > 9 || config.routes.len() > 9 {
+        return None;
+    }
+    let users = Users::empty();
+    turn(alloc, assoc, 1, config, &users, desk, net, 0).ok()
+}
+
 /// Turn after turn, until the association is done.
 fn relayed(alloc: Global, links: Links) -> Option<Outcome> {
     let config = Config::read(alloc, OPEN.as_bytes()).ok()?;
-    let users = Users::empty();
     let mut desk = Desk::make(alloc, 1).ok()?;
     let mut net = net_of(alloc, links)?;
     let client = client_of(alloc, links)?;
@@ -94,7 +108,7 @@ fn relayed(alloc: Global, links: Links) -> Option<Outcome> {
     let mut assoc = Assoc::open(alloc, 1, client, peer, local, 0).ok()?;
     let mut fails = links.target_fails_at;
     for _ in 0..40 {
-        match turn(alloc, assoc, 1, &config, &users, &mut desk, &mut net, 0).ok()? {
+        match turned(alloc, assoc, &config, &mut desk, &mut net)? {
             Next::Wait(next) | Next::Again(next) => assoc = next,
             Next::Done(ended) => return Some(outcome_of(&ended)),
         }
