@@ -1,6 +1,7 @@
 -- The outer call of a turn, its faults, and its end.
-use Rattle.std.proofs.Common.{sym, ℕ, ◌+◌, ◌≡◌, refl, Bool, true, false, ◌&&◌, ◌||◌, not, if◌then◌else◌, Option, Some, None, List, [], ◌++◌, length, ap, subst, ◌∙◌, inl, inr, append_assoc, is_none, filter_map}
+use Rattle.std.proofs.Common.{sym, ℕ, ◌+◌, ◌≡◌, refl, Bool, true, false, ◌&&◌, ◌||◌, not, if◌then◌else◌, Option, Some, None, List, [], ◌++◌, length, ap, subst, ◌∙◌, inl, inr, append_assoc, is_none, filter_map, option_map}
 use Rattle.std.proofs.lemmas.List.{append-nil}
+use Rattle.addr_pattern.specs.declared.addr.Addr.{Addr}
 use Rattle.addr_pattern.specs.declared.endpoint.Endpoint.{Endpoint}
 use Rattle.socks_machine.specs.declared.cause.Cause.{Cause}
 use Rattle.conf_model.specs.declared.protocol.Command.{Command}
@@ -12,14 +13,15 @@ use Rattle.socks_machine.specs.declared.world.Outer.{Outer}
 use Rattle.socks_machine.specs.declared.world.NextMark.{NextMark}
 use Rattle.socks_machine.specs.declared.world.TurnEvent.{TurnEvent}
 use Rattle.socks_machine.specs.Basis.{Basis}
-use Rattle.socks_machine.specs.Calls.{Context, TurnResult, keep, call, call_open, call_grant, call_close, reached_up, reached_not, is_connect, only, is_calling}
+use Rattle.socks_machine.specs.Calls.{Context, TurnResult, keep, decided, call, call_open, call_lookup, call_grant, call_reach, call_close, reached_up, reached_not, is_connect, only, is_calling}
 use Rattle.socks_machine.specs.Datagrams.{owed_datagrams, fates_at, sent_by}
 use Rattle.socks_machine.specs.Decisions.{Grant, granted, reached_at, peer_let_in}
 use Rattle.socks_machine.specs.Equal.{mark_eq}
 use Rattle.conf_model.specs.Handshake.{Request}
-use Rattle.socks_machine.specs.InTurn.{Takes, takings, Sendings, Grows, Going, Calm, Reading, Called, InTurn, with_sendings}
+use Rattle.socks_machine.specs.InTurn.{Takes, takings, Sendings, Grows, Going, Calm, Reading, Called, InTurn, is_call, with_sendings}
 use Rattle.socks_machine.specs.Owed.{owed_to_client, owed_to_target, granted_replies_in, refusal_of_in, reply_at, target_by, target_is_there}
 use Rattle.socks_machine.specs.Phase.{Phase, phase, relay_began_in, began_by, began_after_in, way, target_payload_in, client_payload_in}
+use Rattle.socks_machine.specs.PhaseActs.{lookup_outcome, dial_failure}
 use Rattle.socks_machine.specs.Settle.{fix, first_cause}
 use Rattle.socks_machine.specs.Taking.{◌>>=◌}
 use Rattle.socks_machine.specs.View.{View, view}
@@ -159,13 +161,49 @@ pub dials : (s : Context) (a : Record) (came : Option Endpoint) (g : Grant) (loc
     → Called s (Outer.Up local) came a (reached_up s a g local)
 dials s a came g local at = record { some = refl; due = ap (λ p. is_calling p came) at; made = ap (λ p. call s a p came (Outer.Up local)) at }
 
--- the dial is refused
-pub refuses : (s : Context) (a : Record) (came : Option Endpoint) (g : Grant) → phase s.basis a ≡ Phase.Reach g → is_connect g ≡ true
-    → Called s Outer.Refused came a (reached_not s a g Cause.Refused)
-refuses s a came g at connects = record {
-  some = refl;
+-- a lookup that came out so is a call, and this is its result
+seeks-by : (s : Context) (a : Record) (name : List ℕ) (outer : Outer) (found : Option Addr) (cause : Option Cause) → lookup_outcome outer ≡ Some (found, cause)
+    → (is_call outer ≡ true) × (call_lookup s a name outer ≡ Some (keep s (decided (Decision.Looked name found) cause a)))
+seeks-by s a name Outer.Nothing found cause is = absurd (cc)
+seeks-by s a name (Outer.Desk logged) found cause is = absurd (cc)
+seeks-by s a name (Outer.Looked addr) found cause is = (refl, ap (option_map (λ (o : Option Addr × Option Cause). keep s (decided (Decision.Looked name o.0) o.1 a))) is)
+seeks-by s a name (Outer.Up at) found cause is = absurd (cc)
+seeks-by s a name Outer.Refused found cause is = absurd (cc)
+seeks-by s a name Outer.HostUnreachable found cause is = absurd (cc)
+seeks-by s a name Outer.NetUnreachable found cause is = absurd (cc)
+seeks-by s a name Outer.Failed found cause is = (refl, ap (option_map (λ (o : Option Addr × Option Cause). keep s (decided (Decision.Looked name o.0) o.1 a))) is)
+
+-- the name is looked up
+pub looks-up : (s : Context) (a : Record) (came : Option Endpoint) (name : List ℕ) (outer : Outer) (found : Option Addr) (cause : Option Cause) → phase s.basis a ≡ Phase.Seek name
+    → lookup_outcome outer ≡ Some (found, cause) → Called s outer came a (keep s (decided (Decision.Looked name found) cause a))
+looks-up s a came name outer found cause at is = record {
+  some = (seeks-by s a name outer found cause is).0;
   due = ap (λ p. is_calling p came) at;
-  made = ap (λ p. call s a p came Outer.Refused) at ∙ ap (λ b. only b (reached_not s a g Cause.Refused)) connects;
+  made = ap (λ p. call s a p came outer) at ∙ (seeks-by s a name outer found cause is).1;
+}
+
+-- .. and so of a CONNECT's dial that failed
+fails-by : (s : Context) (a : Record) (g : Grant) (outer : Outer) (cause : Cause) → is_connect g ≡ true → dial_failure outer ≡ Some cause
+    → (is_call outer ≡ true) × (call_reach s a g outer ≡ Some (reached_not s a g cause))
+fails-by s a g Outer.Nothing cause connects is = absurd (cc)
+fails-by s a g (Outer.Desk logged) cause connects is = absurd (cc)
+fails-by s a g (Outer.Looked found) cause connects is = absurd (cc)
+fails-by s a g (Outer.Up at) cause connects is = absurd (cc)
+fails-by s a g Outer.Refused cause connects is =
+    (refl, ap (λ b. only b (reached_not s a g Cause.Refused)) connects ∙ ap (option_map (reached_not s a g)) is)
+fails-by s a g Outer.HostUnreachable cause connects is =
+    (refl, ap (λ b. only b (reached_not s a g Cause.HostUnreachable)) connects ∙ ap (option_map (reached_not s a g)) is)
+fails-by s a g Outer.NetUnreachable cause connects is =
+    (refl, ap (λ b. only b (reached_not s a g Cause.NetUnreachable)) connects ∙ ap (option_map (reached_not s a g)) is)
+fails-by s a g Outer.Failed cause connects is = (refl, ap (option_map (reached_not s a g)) is)
+
+-- the dial of a CONNECT fails
+pub fails : (s : Context) (a : Record) (came : Option Endpoint) (g : Grant) (outer : Outer) (cause : Cause) → phase s.basis a ≡ Phase.Reach g → is_connect g ≡ true
+    → dial_failure outer ≡ Some cause → Called s outer came a (reached_not s a g cause)
+fails s a came g outer cause at connects is = record {
+  some = (fails-by s a g outer cause connects is).0;
+  due = ap (λ p. is_calling p came) at;
+  made = ap (λ p. call s a p came outer) at ∙ (fails-by s a g outer cause connects is).1;
 }
 
 -- ---- faults

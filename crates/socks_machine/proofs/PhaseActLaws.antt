@@ -1,62 +1,57 @@
 -- What a phase adds to a lawful turn.
-use Rattle.std.proofs.Common.{◌≡◌, true, false, ◌||◌, Some, ◌++◌, ap, ◌∙◌}
-use Rattle.socks_machine.specs.declared.cause.Cause.{Cause}
+use Rattle.std.proofs.Common.{◌≡◌, ℕ, true, false, ◌||◌, Some, ◌++◌, ap, ◌∙◌}
+use Rattle.socks_machine.specs.declared.record.Decision.{Decision}
 use Rattle.socks_machine.specs.declared.record.Record.{Record}
 use Rattle.socks_machine.specs.declared.world.Outer.{Outer}
 use Rattle.socks_machine.specs.declared.world.NextMark.{NextMark}
 use Rattle.socks_machine.specs.declared.world.TurnEvent.{TurnEvent}
-use Rattle.socks_machine.specs.Calls.{Context, keep, call, call_open, reached_not, only, is_calling}
-use Rattle.socks_machine.specs.Laws.{reading}
+use Rattle.socks_machine.specs.Calls.{Context, TurnResult, keep, decided, call, call_open, reached_up, reached_not, is_calling}
+use Rattle.socks_machine.specs.InTurn.{Called}
+use Rattle.socks_machine.specs.Laws.{HasRead, Readings, reading}
 use Rattle.socks_machine.specs.Phase.{Phase, phase}
-use Rattle.socks_machine.specs.PhaseActs.{Accepting, Dialling, Refusing, ShuttingClient, ShuttingTarget, Closing, Waiting, GoingOn}
+use Rattle.socks_machine.specs.PhaseActs.{Accepting, Seeking, Dialling, Refusing, ShuttingClient, ShuttingTarget, Closing, Waiting, GoingOn}
 use Rattle.socks_machine.specs.Relaying.{Relaying, relayed}
 use Rattle.socks_machine.specs.Taking.{◌>>=◌}
-use Rattle.socks_machine.specs.Turn.{turn, proceed, aged, marked, with_record, after_call, without_call, may_output, is_mute, took_quantum, with_memory}
-use Rattle.socks_machine.proofs.CallLaws.{reading-turn, closes, calm-fits, or-not}
+use Rattle.socks_machine.specs.Turn.{turn, ordinary, proceed, aged, marked, with_record, after_call, without_call, may_output, is_mute, took_quantum, with_memory}
+use Rattle.socks_machine.proofs.CallLaws.{reading-turn, opens, looks-up, dials, fails, closes, calm-fits, or-not}
 use Rattle.socks_machine.proofs.PhaseLaws.{aged-fresh}
 use Rattle.socks_machine.proofs.RelayActs.{relay-shut-c, relay-shut-t}
 use Rattle.socks_machine.proofs.RelayLaws.{relaying-reads, alike}
-use Rattle.socks_machine.proofs.TurnStages.{sound}
+use Rattle.socks_machine.proofs.TurnStages.{makes-some, sound}
 use Rattle.socks_machine.proofs.WaitLaws.{again, waits}
+
+-- a turn that has only read makes the call that is due
+calling-turn : (s : Context) (old r : Record) (worker number now : ℕ) (x : Readings) (outer : Outer) (m : TurnResult)
+    → HasRead s old (reading worker number now x) r → Called s outer x.came r m
+    → ordinary s (record (reading worker number now x) { outer = outer }) old
+    ≡ Some (marked NextMark.Going (with_record m (aged s.basis (reading worker number now x) old m.left)))
+calling-turn s old r worker number now x outer m read called =
+    ap (λ o. o >>= λ r1. proceed s ev old r1) read
+    ∙ ap (λ b. elim b [ true ↦ (call s r (phase s.basis r) ev.came ev.outer >>= after_call s ev old) | false ↦ without_call s ev old r ])
+    (makes-some s.basis ev r outer called.some ∙ called.due)
+    ∙ ap (λ o. o >>= after_call s ev old) called.made
+  where
+    ev : TurnEvent
+    ev = record (reading worker number now x) { outer = outer }
 
 pub accepting : Accepting
 accepting s old r worker number now x logged read accepts fresh =
-    ap (λ o. o >>= λ r1. proceed s ev old r1) read
-    ∙ ap (λ p. elim (is_calling p ev.came) [
-      | true ↦ (call s r (phase s.basis r) ev.came ev.outer >>= after_call s ev old)
-      | false ↦ without_call s ev old r
-    ]) accepts
-    ∙ ap (λ p. call s r p ev.came ev.outer >>= after_call s ev old) accepts
+    calling-turn s old r worker number now x (Outer.Desk logged) (call_open s r logged) read (opens s r x.came logged accepts)
     ∙ ap (λ r2. Some (marked NextMark.Going (with_record (call_open s r logged) r2)))
-    (aged-fresh s.basis ev old (call_open s r logged).left fresh)
-  where
-    ev : TurnEvent
-    ev = record (reading worker number now x) { outer = Outer.Desk logged }
+    (aged-fresh s.basis (reading worker number now x) old (call_open s r logged).left fresh)
+
+pub seeking : Seeking
+seeking s old r worker number now x name outer found cause read seeks is =
+    calling-turn s old r worker number now x outer (keep s (decided (Decision.Looked name found) cause r)) read
+    (looks-up s r x.came name outer found cause seeks is)
 
 pub dialling : Dialling
 dialling s old r worker number now x g at read reaches =
-    ap (λ o. o >>= λ r1. proceed s ev old r1) read
-    ∙ ap (λ p. elim (is_calling p ev.came) [
-      | true ↦ (call s r (phase s.basis r) ev.came ev.outer >>= after_call s ev old)
-      | false ↦ without_call s ev old r
-    ]) reaches
-    ∙ ap (λ p. call s r p ev.came ev.outer >>= after_call s ev old) reaches
-  where
-    ev : TurnEvent
-    ev = record (reading worker number now x) { outer = Outer.Up at }
+    calling-turn s old r worker number now x (Outer.Up at) (reached_up s r g at) read (dials s r x.came g at reaches)
 
 pub refusing : Refusing
-refusing s old r worker number now x g read reaches connects =
-    ap (λ o. o >>= λ r1. proceed s ev old r1) read
-    ∙ ap (λ p. elim (is_calling p ev.came) [
-      | true ↦ (call s r (phase s.basis r) ev.came ev.outer >>= after_call s ev old)
-      | false ↦ without_call s ev old r
-    ]) reaches
-    ∙ ap (λ p. call s r p ev.came ev.outer >>= after_call s ev old) reaches
-    ∙ ap (λ b. only b (reached_not s r g Cause.Refused) >>= after_call s ev old) connects
-  where
-    ev : TurnEvent
-    ev = record (reading worker number now x) { outer = Outer.Refused }
+refusing s old r worker number now x g outer cause read reaches connects is =
+    calling-turn s old r worker number now x outer (reached_not s r g cause) read (fails s r x.came g outer cause reaches connects is)
 
 -- a turn in such a relay is lawful
 relays : (s : Context) (old : Record) (e : TurnEvent) (r : Record) → Relaying s old e r

@@ -1,12 +1,14 @@
 -- What a phase adds to a lawful turn: its outer call, a shut, the close and the answer.
-use Rattle.std.specs.Prelude.{ℕ, ◌≡◌, Bool, true, false, Some, None}
+use Rattle.std.specs.Prelude.{ℕ, ◌≡◌, Bool, true, false, Option, Some, None, List}
+use Rattle.addr_pattern.specs.declared.addr.Addr.{Addr}
 use Rattle.addr_pattern.specs.declared.endpoint.Endpoint.{Endpoint}
 use Rattle.socks_machine.specs.declared.cause.Cause.{Cause}
+use Rattle.socks_machine.specs.declared.record.Decision.{Decision}
 use Rattle.socks_machine.specs.declared.record.Record.{Record}
 use Rattle.socks_machine.specs.declared.world.Outer.{Outer}
 use Rattle.socks_machine.specs.declared.world.NextMark.{NextMark}
 use Rattle.socks_machine.specs.declared.world.TurnEvent.{TurnEvent}
-use Rattle.socks_machine.specs.Calls.{Context, keep, call_open, call_close, reached_up, reached_not, is_calling, is_connect}
+use Rattle.socks_machine.specs.Calls.{Context, keep, decided, not_found, call_open, call_close, reached_up, reached_not, is_calling, is_connect}
 use Rattle.socks_machine.specs.Decisions.{Grant}
 use Rattle.socks_machine.specs.InTurn.{InTurn, Reading}
 use Rattle.socks_machine.specs.Laws.{HasRead, Readings, reading}
@@ -20,6 +22,19 @@ Accepting = (s : Context) (old r : Record) (worker number now : ℕ) (x : Readin
     → HasRead s old (reading worker number now x) r → phase s.basis r ≡ Phase.Accept → began s.basis (call_open s r logged).left ≡ false
     → ordinary s (record (reading worker number now x) { outer = Outer.Desk logged }) old ≡ Some (marked NextMark.Going (call_open s r logged))
 
+-- what a lookup that came out so found, and why it ends the association
+abbrev pub lookup_outcome : Outer → Option (Option Addr × Option Cause)
+lookup_outcome (Outer.Looked found) = Some (found, not_found found)
+lookup_outcome Outer.Failed = Some (None, Some Cause.NetFault)
+lookup_outcome _ = None
+
+-- In Seek it may have a lookup of the name: one that found an address, that found none, or that failed.
+abbrev pub Seeking : Type 0
+Seeking = (s : Context) (old r : Record) (worker number now : ℕ) (x : Readings) (name : List ℕ) (outer : Outer) (found : Option Addr) (cause : Option Cause)
+    → HasRead s old (reading worker number now x) r → phase s.basis r ≡ Phase.Seek name → lookup_outcome outer ≡ Some (found, cause)
+    → ordinary s (record (reading worker number now x) { outer = outer }) old
+    ≡ Some (marked NextMark.Going (keep s (aged s.basis (reading worker number now x) old (decided (Decision.Looked name found) cause r))))
+
 -- In Reach it may have a dial that is up at an endpoint of its own: the relay may begin with it.
 abbrev pub Dialling : Type 0
 Dialling = (s : Context) (old r : Record) (worker number now : ℕ) (x : Readings) (g : Grant) (at : Endpoint)
@@ -27,12 +42,20 @@ Dialling = (s : Context) (old r : Record) (worker number now : ℕ) (x : Reading
     → ordinary s (record (reading worker number now x) { outer = Outer.Up at }) old
     ≡ Some (marked NextMark.Going (keep s (aged s.basis (reading worker number now x) old (reached_up s r g at).left)))
 
--- .. or, for a CONNECT, one that was refused.
+-- why a CONNECT's dial that came out so ends the association
+abbrev pub dial_failure : Outer → Option Cause
+dial_failure Outer.Refused = Some Cause.Refused
+dial_failure Outer.HostUnreachable = Some Cause.HostUnreachable
+dial_failure Outer.NetUnreachable = Some Cause.NetUnreachable
+dial_failure Outer.Failed = Some Cause.NetFault
+dial_failure _ = None
+
+-- .. or, for a CONNECT, one that failed: refused, with no way to the host or to its network, or by a fault of the net itself.
 abbrev pub Refusing : Type 0
-Refusing = (s : Context) (old r : Record) (worker number now : ℕ) (x : Readings) (g : Grant)
-    → HasRead s old (reading worker number now x) r → phase s.basis r ≡ Phase.Reach g → is_connect g ≡ true
-    → ordinary s (record (reading worker number now x) { outer = Outer.Refused }) old
-    ≡ Some (marked NextMark.Going (keep s (aged s.basis (reading worker number now x) old (reached_not s r g Cause.Refused).left)))
+Refusing = (s : Context) (old r : Record) (worker number now : ℕ) (x : Readings) (g : Grant) (outer : Outer) (cause : Cause)
+    → HasRead s old (reading worker number now x) r → phase s.basis r ≡ Phase.Reach g → is_connect g ≡ true → dial_failure outer ≡ Some cause
+    → ordinary s (record (reading worker number now x) { outer = outer }) old
+    ≡ Some (marked NextMark.Going (keep s (aged s.basis (reading worker number now x) old (reached_not s r g cause).left)))
 
 -- In the relay of a CONNECT it may shut the client's side, where the target has ended and all of it was sent,
 abbrev pub ShuttingClient : Type 0

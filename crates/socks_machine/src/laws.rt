@@ -2,7 +2,7 @@
 //!
 //! Each function does nothing; its contract is the law.
 
-ghost use Rattle.socks_machine.specs.PhaseActs.{Accepting, Dialling, Refusing, ShuttingClient, ShuttingTarget, Closing, Waiting, GoingOn};
+ghost use Rattle.socks_machine.specs.PhaseActs.{Accepting, Seeking, Dialling, Refusing, ShuttingClient, ShuttingTarget, Closing, Waiting, GoingOn};
 ghost use Rattle.socks_machine.specs.Laws.{Talk, TalkOwes, Granting, Writing, Relaying, RunsOn};
 ghost use Rattle.socks_machine.specs.Later.{Later};
 ghost use Rattle.socks_machine.specs.PhaseFacts.{PhaseSays};
@@ -22,6 +22,11 @@ pub fn talk_owes()
     ensures { TalkOwes }
 {}
 
+/// In Seek a turn may have a lookup of the name. One that found no address, or failed, fixes the cause.
+pub fn seeking()
+    ensures { Seeking }
+{}
+
 /// In Judging a turn may have the desk's answer to the grant, whatever it has read.
 pub fn granting()
     ensures { Granting }
@@ -32,7 +37,7 @@ pub fn dialling()
     ensures { Dialling }
 {}
 
-/// In Reach a turn may have a CONNECT's dial refused, which fixes the cause.
+/// In Reach a turn may have a CONNECT's dial that failed, in any of the four ways; each fixes its own cause.
 pub fn refusing()
     ensures { Refusing }
 {}
