@@ -2,13 +2,14 @@
 use Rattle.std.proofs.Common.{◌≢◌, ◌+◌, ℕ, List, [], ◌∷◌, inl, inr, Some, None, Result, Ok, Err, IfOk, sym, subst}
 use Rattle.socks_machine.specs.declared.world.Object.{Object}
 use Rattle.socks_machine.specs.declared.world.Outer.{Outer}
+use Rattle.socks_machine.specs.declared.script.CallKind.{CallKind}
 use Rattle.socks_machine.specs.declared.script.ScriptLine.{ScriptLine}
 use Rattle.replay_script.specs.declared.entry.Entry.{Entry}
 use Rattle.replay_script.specs.declared.fault.ScriptFault.{ScriptFault}
 use Rattle.replay_script.specs.declared.fault.ScriptKind.{ScriptKind}
 use Rattle.replay_script.specs.declared.state.State.{State}
-use Rattle.replay_script.specs.Conditions.{start, after, IsServedOutcome, IsServedLookup, IsServedForm, IsServedRoom, IsServedFrom, IsServed}
-use Rattle.replay_script.specs.Forms.{IsBound, IsOutcome, IsFound, Spells}
+use Rattle.replay_script.specs.Conditions.{start, after, IsServedOutcome, IsServedLookup, IsServedForm, IsServedRoom, IsServedFault, IsServedFrom, IsServed}
+use Rattle.replay_script.specs.Forms.{IsBound, IsCall, IsOutcome, IsFound, Spells}
 use Rattle.replay_script.specs.Script.{SpellsEntry, Begins, IsServedEntry, Refuses, Reads, AreLines, IsRefusedAt, IsScript, OnLines, OnLinesFault, lines_of}
 use Rattle.replay_script.proofs.Publishing.{published_fits}
 use Rattle.replay_script.proofs.Giving.{given_fits}
@@ -33,6 +34,11 @@ bound_served text Object.Client most h = tt
 bound_served text Object.Target most h = tt
 bound_served text _ most h = h
 
+call_served : (text : List ℕ) (object : Object) (kind : CallKind) → IsCall text object kind → IsServedFault object
+call_served text Object.Client kind h = tt
+call_served text Object.Target kind h = tt
+call_served text _ kind h = h
+
 spelled_served : (text : List ℕ) (l : ScriptLine) → Spells text l → IsServedForm l
 spelled_served text (ScriptLine.See w) h = h.0
 spelled_served text (ScriptLine.Open w n peer at) h = h.0
@@ -43,6 +49,7 @@ spelled_served text (ScriptLine.TargetEnd n) h = tt
 spelled_served text (ScriptLine.Lookup n outer) h = found_served h.2.1 outer h.2.3.1
 spelled_served text (ScriptLine.Dial n outer) h = outcome_served h.2.1 outer h.2.3.1
 spelled_served text (ScriptLine.Room n object most) h = bound_served h.2.1 object most h.2.3.1
+spelled_served text (ScriptLine.Fault n object kind) h = call_served h.2.1 object kind h.2.3.1
 spelled_served text (ScriptLine.Now n) h = tt
 spelled_served text (ScriptLine.Turn w n) h = h.0
 spelled_served text _ h = absurd h

@@ -8,10 +8,11 @@ use Rattle.addr_pattern.specs.declared.fault.AddrFault.{AddrFault}
 use Rattle.addr_pattern.specs.Reading.{addr_read}
 use Rattle.socks_machine.specs.declared.world.Object.{Object}
 use Rattle.socks_machine.specs.declared.world.Outer.{Outer}
+use Rattle.socks_machine.specs.declared.script.CallKind.{CallKind}
 use Rattle.socks_machine.specs.declared.script.ScriptLine.{ScriptLine}
 use Rattle.replay_script.specs.Conf.{publish_word}
 use Rattle.replay_script.specs.Cuts.{IsNumber}
-use Rattle.replay_script.specs.Forms.{largest, Spells, IsEndpoint, IsHex, IsNumbered, IsOpen, IsSent, IsClient, IsTarget, IsDial, IsOutcome, is_skipped, IsAddress, IsLookup, IsFound, IsBound, IsRoom}
+use Rattle.replay_script.specs.Forms.{largest, Spells, IsEndpoint, IsHex, IsNumbered, IsOpen, IsSent, IsClient, IsTarget, IsDial, IsOutcome, is_skipped, IsAddress, IsLookup, IsFound, IsBound, IsRoom, IsKind, IsCall, IsFault}
 use Rattle.replay_script.specs.Users.{users_word}
 use Rattle.replay_script.proofs.Peeling.{peel_after, peel_cut, peel_number}
 
@@ -151,6 +152,48 @@ one_room text n m a b most other h k =
     let e = one_bound h.2.1 a b most other h.2.3.1 k2.1 in
     (sym h.2.3.0 ∙ k2.0, e.0, e.1)
 
+-- the first byte of a kind of call
+unfoldable kind_code : CallKind → ℕ
+kind_code CallKind.Reading = 114
+kind_code CallKind.Writing = 119
+kind_code CallKind.Shutting = 115
+
+kind_first : (text : List ℕ) (k : CallKind) → IsKind text k → get_or text 0 0 ≡ kind_code k
+unfolding kind_code
+kind_first text CallKind.Reading h = ap (λ (z : List ℕ). get_or z 0 0) h
+kind_first text CallKind.Writing h = ap (λ (z : List ℕ). get_or z 0 0) h
+kind_first text CallKind.Shutting h = ap (λ (z : List ℕ). get_or z 0 0) h
+
+same_kind : (a b : CallKind) → kind_code a ≡ kind_code b → a ≡ b
+unfolding kind_code
+same_kind CallKind.Reading CallKind.Reading e = refl
+same_kind CallKind.Writing CallKind.Writing e = refl
+same_kind CallKind.Shutting CallKind.Shutting e = refl
+same_kind a b e = absurd (omega (arith, e))
+
+one_kind : (text : List ℕ) (a b : CallKind) → IsKind text a → IsKind text b → a ≡ b
+one_kind text a b h k = same_kind a b (sym (kind_first text a h) ∙ kind_first text b k)
+
+one_call : (text : List ℕ) (a b : Object) (k j : CallKind) → IsCall text a k → IsCall text b j → (a ≡ b) × (k ≡ j)
+one_call text Object.Client Object.Client k j h i = (refl, one_kind h.0 k j h.2 (peel_after (codes "client ") text h.0 _ h.1 i))
+one_call text Object.Target Object.Target k j h i = (refl, one_kind h.0 k j h.2 (peel_after (codes "target ") text h.0 _ h.1 i))
+one_call text Object.Client Object.Target k j h i =
+    let e : ◌≡◌ {A = ℕ} 99 116 = ap (λ (z : List ℕ). get_or z 0 0) (sym h.1 ∙ i.1) in
+    absurd (omega (arith, e))
+one_call text Object.Target Object.Client k j h i =
+    let e : ◌≡◌ {A = ℕ} 116 99 = ap (λ (z : List ℕ). get_or z 0 0) (sym h.1 ∙ i.1) in
+    absurd (omega (arith, e))
+one_call text Object.Client _ k j h i = absurd i
+one_call text Object.Target _ k j h i = absurd i
+one_call text _ _ k j h i = absurd h
+
+one_fault_line : (text : List ℕ) (n m : ℕ) (a b : Object) (k j : CallKind) → IsFault text n a k → IsFault text m b j → (n ≡ m) × (a ≡ b) × (k ≡ j)
+one_fault_line text n m a b k j h i =
+    let i1 = peel_after (codes "fault ") text h.0 _ h.1 i in
+    let i2 = peel_number 32 largest h.0 h.2.0 h.2.1 _ refl (omega arith) h.2.2 i1 in
+    let e = one_call h.2.1 a b k j h.2.3.1 i2.1 in
+    (sym h.2.3.0 ∙ i2.0, e.0, e.1)
+
 client_end : (text : List ℕ) (n m : ℕ) (xs : List ℕ) → IsClient text n xs → IsNumbered (codes "clientend ") text m → ⊥
 client_end text n m xs h k =
     let e : ◌≡◌ {A = ℕ} 32 101 = ap (λ (z : List ℕ). get_or z 6 0) (sym h.0.1 ∙ k.1) in
@@ -180,6 +223,7 @@ code (ScriptLine.TargetEnd n) = two_bytes 116 97
 code (ScriptLine.Lookup n o) = two_bytes 108 111
 code (ScriptLine.Dial n o) = two_bytes 100 105
 code (ScriptLine.Room n o most) = two_bytes 114 111
+code (ScriptLine.Fault n o k) = two_bytes 102 97
 code (ScriptLine.Now n) = two_bytes 110 111
 code (ScriptLine.Turn w n) = two_bytes 116 117
 code _ = 0
@@ -195,6 +239,7 @@ begins_with_code text (ScriptLine.TargetEnd n) h = (ap front_code h.1, omega ari
 begins_with_code text (ScriptLine.Lookup n o) h = (ap front_code h.1, omega arith)
 begins_with_code text (ScriptLine.Dial n o) h = (ap front_code h.1, omega arith)
 begins_with_code text (ScriptLine.Room n o most) h = (ap front_code h.1, omega arith)
+begins_with_code text (ScriptLine.Fault n o k) h = (ap front_code h.1, omega arith)
 begins_with_code text (ScriptLine.Now n) h = (ap front_code h.1, omega arith)
 begins_with_code text (ScriptLine.Turn w n) h = (ap front_code h.1.1, omega arith)
 begins_with_code text _ h = absurd h
@@ -213,6 +258,7 @@ same_form text (ScriptLine.TargetEnd n) (ScriptLine.TargetEnd m) e s h k = let r
 same_form text (ScriptLine.Lookup n a) (ScriptLine.Lookup m b) e s h k = let r = one_lookup text n m a b h k in cc (r.0, r.1)
 same_form text (ScriptLine.Dial n a) (ScriptLine.Dial m b) e s h k = let r = one_dial text n m a b h k in cc (r.0, r.1)
 same_form text (ScriptLine.Room n a most) (ScriptLine.Room m b other) e s h k = let r = one_room text n m a b most other h k in cc (r.0, r.1, r.2)
+same_form text (ScriptLine.Fault n a k) (ScriptLine.Fault m b j) e s h i = let r = one_fault_line text n m a b k j h i in cc (r.0, r.1, r.2)
 same_form text (ScriptLine.Now n) (ScriptLine.Now m) e s h k = let r = one_numbered (codes "now ") text n m h k in cc r
 same_form text (ScriptLine.Turn w n) (ScriptLine.Turn v m) e s h k =
     let r = one_numbered (codes "turn 1 ") text n m h.1 k.1 in
@@ -248,6 +294,7 @@ head_apart text (ScriptLine.TargetEnd n) h = other_head (get_or text 0 0) 116 (a
 head_apart text (ScriptLine.Lookup n o) h = other_head (get_or text 0 0) 108 (ap (λ (z : List ℕ). get_or z 0 0) h.1) (omega arith, λ f. absurd (omega (arith, f)), λ f. absurd (omega (arith, f)))
 head_apart text (ScriptLine.Dial n o) h = other_head (get_or text 0 0) 100 (ap (λ (z : List ℕ). get_or z 0 0) h.1) (omega arith, λ f. absurd (omega (arith, f)), λ f. absurd (omega (arith, f)))
 head_apart text (ScriptLine.Room n o most) h = other_head (get_or text 0 0) 114 (ap (λ (z : List ℕ). get_or z 0 0) h.1) (omega arith, λ f. absurd (omega (arith, f)), λ f. absurd (omega (arith, f)))
+head_apart text (ScriptLine.Fault n o k) h = other_head (get_or text 0 0) 102 (ap (λ (z : List ℕ). get_or z 0 0) h.1) (omega arith, λ f. absurd (omega (arith, f)), λ f. absurd (omega (arith, f)))
 head_apart text (ScriptLine.Now n) h = other_head (get_or text 0 0) 110 (ap (λ (z : List ℕ). get_or z 0 0) h.1) (omega arith, λ f. absurd (omega (arith, f)), λ f. absurd (omega (arith, f)))
 head_apart text (ScriptLine.Turn w n) h = other_head (get_or text 0 0) 116 (ap (λ (z : List ℕ). get_or z 0 0) h.1.1) (omega arith, λ f. absurd (omega (arith, f)), λ f. absurd (omega (arith, f)))
 head_apart text _ h = absurd h

@@ -50,6 +50,7 @@ allows s (ScriptLine.TargetEnd a) = on_side (side_of s a) (λ side. not side.end
 allows s (ScriptLine.Lookup a outer) = on_side (side_of s a) (λ side. not side.looked)
 allows s (ScriptLine.Dial a outer) = on_side (side_of s a) (λ side. not side.dialled)
 allows s (ScriptLine.Room a object most) = on_side (side_of s a) (λ side. true)
+allows s (ScriptLine.Fault a object kind) = on_side (side_of s a) (λ side. true)
 allows s (ScriptLine.Now n) = nat_le s.moment n
 allows s (ScriptLine.Turn w a) = s.seen && on_side (side_of s a) (λ side. true)
 allows s _ = false
@@ -98,6 +99,12 @@ IsServedRoom Object.Client = Unit {0}
 IsServedRoom Object.Target = Unit {0}
 IsServedRoom _ = ⊥
 
+-- a call on the link of the client or of the target
+abbrev pub IsServedFault : Object → Type 0
+IsServedFault Object.Client = Unit {0}
+IsServedFault Object.Target = Unit {0}
+IsServedFault _ = ⊥
+
 -- what is served of a line, whatever stands before it
 abbrev pub IsServedForm : ScriptLine → Type 0
 IsServedForm (ScriptLine.UsersAre users) = are_users users ≡ true
@@ -111,6 +118,7 @@ IsServedForm (ScriptLine.TargetEnd a) = Unit {0}
 IsServedForm (ScriptLine.Lookup a outer) = IsServedLookup outer
 IsServedForm (ScriptLine.Dial a outer) = IsServedOutcome outer
 IsServedForm (ScriptLine.Room a object most) = IsServedRoom object
+IsServedForm (ScriptLine.Fault a object kind) = IsServedFault object
 IsServedForm (ScriptLine.Now n) = Unit {0}
 IsServedForm (ScriptLine.Turn w a) = w ≡ 1
 IsServedForm _ = ⊥

@@ -6,6 +6,7 @@ use Rattle.addr_pattern.specs.Reading.{addr_read, endpoint_read}
 use Rattle.hex.specs.Hex.{decode_of}
 use Rattle.socks_machine.specs.declared.world.Object.{Object}
 use Rattle.socks_machine.specs.declared.world.Outer.{Outer}
+use Rattle.socks_machine.specs.declared.script.CallKind.{CallKind}
 use Rattle.socks_machine.specs.declared.script.ScriptLine.{ScriptLine}
 use Rattle.replay_script.specs.Cuts.{IsNumber, After, NumberThen, CutThen}
 
@@ -80,6 +81,22 @@ IsBound text _ most = ⊥
 abbrev pub IsRoom : List ℕ → ℕ → Object → ℕ → Type 0
 IsRoom text n object most = After (codes "room ") text (λ rest. NumberThen 32 largest rest (λ m bound. (m ≡ n) × IsBound bound object most))
 
+-- a kind of call on a link
+abbrev pub IsKind : List ℕ → CallKind → Type 0
+IsKind text CallKind.Reading = text ≡ codes "read"
+IsKind text CallKind.Writing = text ≡ codes "write"
+IsKind text CallKind.Shutting = text ≡ codes "shut"
+
+-- a side, and a kind of call on its link
+abbrev pub IsCall : List ℕ → Object → CallKind → Type 0
+IsCall text Object.Client kind = After (codes "client ") text (λ rest. IsKind rest kind)
+IsCall text Object.Target kind = After (codes "target ") text (λ rest. IsKind rest kind)
+IsCall text _ kind = ⊥
+
+-- the next call of this kind on that link fails
+abbrev pub IsFault : List ℕ → ℕ → Object → CallKind → Type 0
+IsFault text n object kind = After (codes "fault ") text (λ rest. NumberThen 32 largest rest (λ m call. (m ≡ n) × IsCall call object kind))
+
 -- the text is this line
 abbrev pub Spells : List ℕ → ScriptLine → Type 0
 Spells text (ScriptLine.See w) = (w ≡ 1) × (text ≡ codes "see 1")
@@ -91,6 +108,7 @@ Spells text (ScriptLine.TargetEnd n) = IsNumbered (codes "targetend ") text n
 Spells text (ScriptLine.Lookup n outer) = IsLookup text n outer
 Spells text (ScriptLine.Dial n outer) = IsDial text n outer
 Spells text (ScriptLine.Room n object most) = IsRoom text n object most
+Spells text (ScriptLine.Fault n object kind) = IsFault text n object kind
 Spells text (ScriptLine.Now n) = IsNumbered (codes "now ") text n
 Spells text (ScriptLine.Turn w n) = (w ≡ 1) × IsNumbered (codes "turn 1 ") text n
 Spells text _ = ⊥

@@ -2,14 +2,15 @@ ghost use Rattle.std.specs.Prelude.{◌≡◌, ◌++◌, ℕ, List, IfOk, MatchO
 ghost use Rattle.addr_pattern.specs.declared.endpoint.Endpoint.{Endpoint as SomeEndpoint};
 ghost use Rattle.socks_machine.specs.declared.world.Object.{Object as SomeObject};
 ghost use Rattle.socks_machine.specs.declared.world.Outer.{Outer as SomeOuter};
+ghost use Rattle.socks_machine.specs.declared.script.CallKind.{CallKind as SomeKind};
 ghost use Rattle.socks_machine.specs.declared.script.ScriptLine.{ScriptLine as SomeLine};
-ghost use Rattle.replay_script.specs.Forms.{Spells, IsNumbered, IsOpen, IsSent, IsArrival, IsDial, IsOutcome, is_skipped as skips, IsLookup, IsFound, IsBound, IsRoom};
+ghost use Rattle.replay_script.specs.Forms.{Spells, IsNumbered, IsOpen, IsSent, IsArrival, IsDial, IsOutcome, is_skipped as skips, IsLookup, IsFound, IsBound, IsRoom, IsKind, IsCall, IsFault};
 
 use crate::cuts::{behind, cut, number, number_then, same};
 use crate::values::{address, endpoint, hex};
 use addr_pattern::Endpoint;
 use conf_text::Text;
-use socks_machine::{Object, Outer, ScriptLine};
+use socks_machine::{CallKind, Object, Outer, ScriptLine};
 use std::alloc::{AllocError, Global};
 
 /// The most bytes of a client or of a target in one line.
@@ -168,6 +169,50 @@ fn room_line(alloc: Global, text: &[u8]) -> Result<Option<(u64, Object, u64)>, A
     Ok(Some((n, object, most)))
 }
 
+/// A kind of call on a link.
+fn call_kind(text: &[u8]) -> Option<CallKind>
+    ensures { MatchOption result ((kind : SomeKind) → IsKind text.now kind → ⊥) (λ kind. IsKind text.now kind) }
+{
+    if same(text, b"read") {
+        return Some(CallKind::Reading);
+    }
+    if same(text, b"write") {
+        return Some(CallKind::Writing);
+    }
+    if same(text, b"shut") {
+        return Some(CallKind::Shutting);
+    }
+    None
+}
+
+/// A side, and a kind of call on its link.
+fn call(text: &[u8]) -> Option<(Object, CallKind)>
+    ensures { MatchOption result ((object : SomeObject) (kind : SomeKind) → IsCall text.now object kind → ⊥) (λ p. IsCall text.now p.0 p.1) }
+{
+    if let Some(rest) = behind(text, b"client ") {
+        let kind = call_kind(rest)?;
+        return Some((Object::Client, kind));
+    }
+    let rest = behind(text, b"target ")?;
+    let kind = call_kind(rest)?;
+    Some((Object::Target, kind))
+}
+
+fn fault_line(alloc: Global, text: &[u8]) -> Result<Option<(u64, Object, CallKind)>, AllocError>
+    ensures { IfOk result (λ found. MatchOption found ((n : ℕ) (object : SomeObject) (kind : SomeKind) → IsFault text.now n object kind → ⊥) (λ p. IsFault text.now p.0 p.1 p.2)) }
+{
+    let Some(rest) = behind(text, b"fault ") else {
+        return Ok(None);
+    };
+    let Some((n, back)) = number_then(alloc, rest, b' ', u64::MAX)? else {
+        return Ok(None);
+    };
+    let Some((object, kind)) = call(back) else {
+        return Ok(None);
+    };
+    Ok(Some((n, object, kind)))
+}
+
 /// The line that a text spells.
 pub fn line_of(alloc: Global, text: &[u8]) -> Result<Option<ScriptLine>, AllocError>
     ensures { IfOk result (λ found. MatchOption found ((l : SomeLine) → Spells text.now l → ⊥) (λ l. Spells text.now l)) }
@@ -189,6 +234,9 @@ pub fn line_of(alloc: Global, text: &[u8]) -> Result<Option<ScriptLine>, AllocEr
     }
     if let Some((number, object, most)) = room_line(alloc, text)? {
         return Ok(Some(ScriptLine::Room(number, object, most)));
+    }
+    if let Some((number, object, kind)) = fault_line(alloc, text)? {
+        return Ok(Some(ScriptLine::Fault(number, object, kind)));
     }
     if let Some((number, outer)) = lookup_line(alloc, text)? {
         return Ok(Some(ScriptLine::Lookup(number, outer)));

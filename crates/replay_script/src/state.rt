@@ -2,7 +2,8 @@ ghost use Rattle.std.specs.Prelude.{◌≡◌, true, IfOk, MatchOption, None, �
 ghost use Rattle.addr_pattern.specs.declared.endpoint.Endpoint.{Endpoint as SomeEndpoint};
 ghost use Rattle.socks_machine.specs.declared.world.Object.{Object as SomeObject};
 ghost use Rattle.socks_machine.specs.declared.world.Outer.{Outer as SomeOuter};
-ghost use Rattle.socks_machine.specs.declared.script.ScriptLine.TheVariants.{UsersAre, Open, Client, Target, ClientEnd, TargetEnd, Dial, Turn, Lookup, Now, Room};
+ghost use Rattle.socks_machine.specs.declared.script.CallKind.{CallKind as SomeKind};
+ghost use Rattle.socks_machine.specs.declared.script.ScriptLine.TheVariants.{UsersAre, Open, Client, Target, ClientEnd, TargetEnd, Dial, Turn, Lookup, Now, Room, Fault};
 ghost use Rattle.replay_script.specs.Conditions.{start, fresh_side, side_of, may_give as may_give_of, Allowed, IsServedForm};
 ghost use Rattle.replay_script.specs.Script.{is_looked_at};
 ghost use Rattle.user_login.specs.UsersFile.{are_users};
@@ -203,6 +204,12 @@ impl State {
         self.place(number).is_some()
     }
 
+    fn may_fail(&self, number: u64) -> bool
+        ensures { (object : SomeObject) (kind : SomeKind) → Allowed self.now self.now (Fault number object kind) result }
+    {
+        self.place(number).is_some()
+    }
+
     fn moved(&mut self, now: u64) -> bool
         ensures { Allowed self.old self.new (Now now) result }
     {
@@ -268,6 +275,7 @@ impl State {
             ScriptLine::Lookup(number, _) => Ok(self.looked_up(alloc, *number)),
             ScriptLine::Dial(number, _) => Ok(self.dialled(alloc, *number)),
             ScriptLine::Room(number, _, _) => Ok(self.may_bound(*number)),
+            ScriptLine::Fault(number, _, _) => Ok(self.may_fail(*number)),
             ScriptLine::Now(now) => Ok(self.moved(*now)),
             ScriptLine::Turn(_, number) => Ok(self.may_turn(*number)),
             _ => Ok(false),

@@ -2,7 +2,7 @@ use super::*;
 use addr_pattern::Addr;
 use conf_model::{ConfFault, ConfKind};
 use conf_text::{Text, TextFault};
-use socks_machine::{Object, Outer, ScriptLine};
+use socks_machine::{CallKind, Object, Outer, ScriptLine};
 use std::alloc::{AllocError, Global};
 use std::test::*;
 use user_login::{UsersFault, UsersKind};
@@ -167,6 +167,26 @@ const UNSERVED: &[(u32, &str)] = &[
     (8, "room client 1\n"),
     (8, "room 0 client 1\n"),
     (8, "room 2 target 1\n"),
+    (8, "fault 1 client\n"),
+    (8, "fault 1 client \n"),
+    (8, "fault 1 read\n"),
+    (8, "fault client read\n"),
+    (8, "fault 1  client read\n"),
+    (8, "fault 1 client  read\n"),
+    (8, "fault 1 client read \n"),
+    (8, "fault 1 client Read\n"),
+    (8, "fault 1 client reads\n"),
+    (8, "fault 1 client accept\n"),
+    (8, "fault 1 target recv\n"),
+    (8, "fault 1 target send\n"),
+    (8, "fault 1 Target shut\n"),
+    (8, "fault 1 side read\n"),
+    (8, "fault 1 door accept\n"),
+    (8, "fault 1 port recv\n"),
+    (8, "fault 1 port send\n"),
+    (8, "fault 01 client read\n"),
+    (8, "fault 0 client read\n"),
+    (8, "fault 2 target write\n"),
     (8, "now\n"),
     (8, "now \n"),
     (8, "now  5\n"),
@@ -497,6 +517,47 @@ fn how_much_a_write_takes(rt: HostRuntime) -> Result<(), Fail> {
                     assert_eq!(rt; *bound, most, "at {text}");
                 }
                 _ => Err("the last line is no bound")?,
+            },
+        }
+    }
+    Ok(())
+}
+
+#[test]
+fn which_call_fails(rt: HostRuntime) -> Result<(), Fail> {
+    for (object, kind, text) in [
+        (
+            Object::Client,
+            CallKind::Reading,
+            "clientend 1\nfault 1 client read",
+        ),
+        (
+            Object::Client,
+            CallKind::Writing,
+            "fault 1 client write\nfault 1 client write\n",
+        ),
+        (Object::Client, CallKind::Shutting, "fault 1 client shut\n"),
+        (
+            Object::Target,
+            CallKind::Reading,
+            "fault 1 client read\nfault 1 target read\n",
+        ),
+        (Object::Target, CallKind::Writing, "fault 1 target write"),
+        (
+            Object::Target,
+            CallKind::Shutting,
+            "turn 1 1\nfault 1 target shut\n#\n",
+        ),
+    ] {
+        let script = format!(in rt.alloc(); "{RULES}{text}")?;
+        match read_script(rt.alloc(), script.as_bytes()) {
+            Err(_) => Err("a failing call was refused")?,
+            Ok(lines) => match lines.as_slice().last() {
+                Some(ScriptLine::Fault(1, of, call)) => {
+                    assert_eq!(rt; *of, object, "at {text}");
+                    assert_eq!(rt; *call, kind, "at {text}");
+                }
+                _ => Err("the last line is no failing call")?,
             },
         }
     }
