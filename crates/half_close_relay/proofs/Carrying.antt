@@ -72,7 +72,7 @@ carries-halted left was now source source' sink halt h = record {
     ends : (halt : Halt) → TakeEnds left was now source source' h.given (Err halt) → CarryEnds left was now source source' sink sink h.given (Err halt)
     ends Halt.Source z = (z.0, z.1, refl)
     ends Halt.Sink z = absurd z
-    ends Halt.Memory z = (z, refl)
+    ends Halt.Memory z = (z.0, z.1, refl)
 
 carries : {A : Type 0} (left n : ℕ) (was mid now : Way) (source source' sink sink' : Seen) (sending : Result A Halt) (outcome : Result ℕ Halt) → (h : TakesPiece left was mid source source' (Ok n)) → SendsOn mid now sink sink' sending
     → CarryEnds left was now source source' sink sink' h.given outcome → Carries left was now source source' sink sink' outcome

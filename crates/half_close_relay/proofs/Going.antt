@@ -168,7 +168,7 @@ halts taken left_c left_t a b c client client' client'' target target' target'' 
       failed-after target target' target'' h.relays.target_serves.later (same-unfailing h.down h.up target target' h.relays.target_serves) z.0,
       of-either (λ x. x) (λ x. read-due _ _ _ _ x) z.2,
     )
-    ends Pumped.Memory z = of-either (λ x. read-due _ _ _ _ x) (λ x. read-due _ _ _ _ x) z.1
+    ends Pumped.Memory z = of-either (λ x. read-due _ _ _ _ x.0) (λ x. read-due _ _ _ _ x) z.1
 
 -- the last round took nothing
 pub rests : (taken left_c left_t : ℕ) (a b c : Relaying) (client client' client'' target target' target'' : Seen) (took : PerSide) (answer : Pumped) → SoFar taken left_c left_t a b client client' target target'
@@ -248,7 +248,7 @@ flush-halts was now client client' target target' answer h = flushes was now cli
     ends Pumped.Ended z = absurd z
     ends (Pumped.Fault Side.Client) z = (z.0, of-other (λ x. never _ _ _ x.0) z.2)
     ends (Pumped.Fault Side.Target) z = (z.0, of-one (λ x. never _ _ _ x) z.2)
-    ends Pumped.Memory z = never _ _ _ (of-one (λ x. never _ _ _ x) z.1)
+    ends Pumped.Memory z = never _ _ _ (of-one (λ x. never _ _ _ x) z.1).0
 
 pub flush-rests : (was now : Relaying) (client client' target target' : Seen) (took : PerSide) (answer : Pumped) → Rounds 0 0 was now client client' target target' (Ok took)
     → (AtRest 0 0 now client client' target target' → FlushEnds now client client' target target' answer) → Flushes was now client client' target target' answer

@@ -37,7 +37,7 @@ stops left was after old new outcome e gives why = record {
     ends (Ok n) h = (h.0, λ z. record { idle = (h.1 z).idle })
     ends (Err Halt.Source) h = (h.0, untaken h.1)
     ends (Err Halt.Sink) h = h
-    ends (Err Halt.Memory) h = untaken h
+    ends (Err Halt.Memory) h = (untaken h.0, h.1)
 
 -- nothing could be read of a source that may be read
 pub unmoved : (left : ℕ) (way : Way) → way.ended ≡ false → way.shut ≡ false → 0 < left → Untaken left way way []

@@ -86,7 +86,7 @@ rounds-up left_c left_t was up client client' target target' halt answer is h = 
         → RoundEnds left_c left_t was (record { up = up; down = was.down }) client client' target target' h.move.given [] (Err (answer_of Side.Client Side.Target halt))
     ends Halt.Source z = (z.0, λ both. not-both up.shut (unshut _ _ _ _ z.1) both.0, inl (z.1, refl, z.2))
     ends Halt.Sink z = (z.0, λ both. not-both up.shut z.1.unshut both.0, inl z.1, refl)
-    ends Halt.Memory z = (λ both. not-both up.shut (unshut _ _ _ _ z.0) both.0, inl z.0, refl)
+    ends Halt.Memory z = (λ both. not-both up.shut (unshut _ _ _ _ z.0) both.0, inl z, refl)
 
 relays-both : (left_c left_t : ℕ) (was : Relaying) (up down : Way) (client mid_c client' target mid_t target' : Seen) (first second : Result ℕ Halt)
     → (h : Carries left_c was.up up client mid_c target mid_t first) → (k : Carries left_t was.down down mid_t target' mid_c client' second)

@@ -1,8 +1,9 @@
 -- Outcomes that the clauses refuse, each at small values.
-use Rattle.std.proofs.Common.{◌≡◌, ◌<◌, ◌-◌, ◌^◌, ◌⊎◌, inl, inr, ℕ, Bool, true, false, Err, List, [], ◌∷◌, length, refl, ap, arith}
+use Rattle.std.proofs.Common.{◌≡◌, ◌<◌, ◌-◌, ◌^◌, ◌⊎◌, inl, inr, ℕ, Bool, true, false, Some, Err, List, [], ◌∷◌, length, refl, ap, arith}
+use Rattle.half_close_relay.specs.declared.halt.Halt.{Halt}
 use Rattle.half_close_relay.specs.declared.pumped.Pumped.{Pumped}
 use Rattle.half_close_relay.specs.declared.pumped.Side.{Side}
-use Rattle.half_close_relay.specs.Ways.{Way, Moves, Seen, Failed, SinkRests, ReadIsDue, SinkIsDue}
+use Rattle.half_close_relay.specs.Ways.{Way, Moves, Seen, Failed, SinkRests, ReadIsDue, SinkIsDue, Untaken, TakeEnds, CarryEnds}
 use Rattle.half_close_relay.specs.Pumping.{Relaying, BothShut, RoundEnds, Pumps, PumpEnds}
 
 -- a direction by its fields
@@ -31,6 +32,10 @@ padded h = let e = h.kept in cc
 echoed : Moves running running (record { given = []; sent = 5 ∷ []; ends = false; shuts = false }) → ⊥
 echoed h = let e = h.kept in cc
 
+-- a byte that the source gave is nowhere
+dropped : Moves running (way [] false false 1 0) (record { given = 5 ∷ []; sent = []; ends = false; shuts = false }) → ⊥
+dropped h = let e = h.kept in cc
+
 -- a source that has ended was read
 read-again : Moves (way [] true false 0 0) (way (3 ∷ []) true false 1 0) (record { given = 3 ∷ []; sent = []; ends = false; shuts = false }) → ⊥
 read-again h = let e = (h.silent refl).0 in cc
@@ -42,6 +47,10 @@ forgotten h = let e = h.ended' in cc
 made-up : Moves running (way [] true false 0 0) (record { given = []; sent = []; ends = false; shuts = false }) → ⊥
 made-up h = let e = h.ended' in cc
 
+-- a sink is shut whose source hasn't ended
+cut-off : Moves running (way [] false true 0 0) (record { given = []; sent = []; ends = false; shuts = true }) → ⊥
+cut-off h = let e = (h.due refl).0 in cc
+
 -- a sink is shut twice, and one counts as shut that wasn't
 shut-again : Moves over over (record { given = []; sent = []; ends = false; shuts = true }) → ⊥
 shut-again h = let e = h.once refl in cc
@@ -52,6 +61,10 @@ unshut h = let e = h.shut' in cc
 -- a byte that waits counts as sent
 uncounted : Moves (way (1 ∷ 2 ∷ []) false false 0 0) (way (2 ∷ []) false false 0 2) (record { given = []; sent = 1 ∷ []; ends = false; shuts = false }) → ⊥
 uncounted h = let e = h.sent' in cc
+
+-- a total goes on at nothing behind its type's end
+wrapped : Moves (way (1 ∷ []) false false 0 18446744073709551615) (way [] false false 0 0) (record { given = []; sent = 1 ∷ []; ends = false; shuts = false }) → ⊥
+wrapped h = let e = h.sent' in cc
 
 -- a sink that is to be shut and wasn't is at no rest
 undone : (sink sink' : Seen) → SinkRests (way [] true false 0 0) sink sink' → ⊥
@@ -102,3 +115,20 @@ no-call-due left_c left_t client client' target target' h = neither h.1
 gone-on : (client client' target target' : Seen) → RoundEnds 9 9 (record { up = way (1 ∷ []) false false 0 0; down = running }) (record { up = way (1 ∷ []) false false 0 0; down = way [] false false 1 1 })
     client client' target target' [] (5 ∷ []) (Err (Pumped.Fault Side.Target)) → ⊥
 gone-on client client' target target' h = let e = ap (λ (w : Way). w.took) h.3 in cc
+
+-- the target gave 5, which the client took, before a read of the client failed in the first direction
+gone-before : (client client' target target' : Seen) → RoundEnds 9 9 (record { up = running; down = running }) (record { up = running; down = way [] false false 1 1 })
+    client client' target target' [] (5 ∷ []) (Err (Pumped.Fault Side.Client)) → ⊥
+gone-before client client' target target' h = neither h.2
+  where
+    neither : (Untaken 9 running running [] × (way [] false false 1 1 ≡ running) × (target' ≡ target)) ⊎ SinkIsDue (way [] false false 1 1) → ⊥
+    neither (inl x) = let e = ap (λ (w : Way). w.took) x.1 in cc
+    neither (inr x) = let e = x.due refl in cc
+
+-- a fault of the source is answered as want of memory
+hidden : (source source' : Seen) → source.counts.faults < source'.counts.faults → TakeEnds 9 running running source source' [] (Err Halt.Memory) → ⊥
+hidden source source' rose h = omega (arith, rose, ap (λ (s : Seen). s.counts.faults) h.1)
+
+-- the sink took 5 behind a read that failed
+sent-on : (source source' sink sink' : Seen) → sink.told.taken ≡ Some [] → sink'.told.taken ≡ Some (5 ∷ []) → CarryEnds 9 running running source source' sink sink' [] (Err Halt.Source) → ⊥
+sent-on source source' sink sink' none some h = let e = ap (λ (s : Seen). s.told.taken) h.2 in cc

@@ -52,7 +52,8 @@ pub record AtRest (left_c left_t : ℕ) (now : Relaying) (client client' target 
 
 -- ---- one round over both directions
 
--- Behind a call of the first direction that failed, and where memory was refused, the second direction is as it was.
+-- Behind a call of the first direction that failed, and where memory was refused, the second direction is as it was. Where
+-- memory was refused for the first both links are.
 abbrev pub RoundEnds : ℕ → ℕ → Relaying → Relaying → Seen → Seen → Seen → Seen → List ℕ → List ℕ → Result PerSide Pumped → Type 0
 RoundEnds left_c left_t was now client client' target target' up down (Ok took) =
     (length up ≡ took.client) × (length down ≡ took.target) × (took.client ≡ 0 → took.target ≡ 0 → AtRest left_c left_t now client client' target target')
@@ -61,7 +62,7 @@ RoundEnds left_c left_t was now client client' target target' up down (Err (Pump
 RoundEnds left_c left_t was now client client' target target' up down (Err (Pumped.Fault Side.Target)) =
     Failed target target' × (BothShut now → ⊥) × (SinkIsDue now.up ⊎ Untaken left_t was.down now.down down) × (now.down ≡ was.down)
 RoundEnds left_c left_t was now client client' target target' up down (Err Pumped.Memory) =
-    (BothShut now → ⊥) × (Untaken left_c was.up now.up up ⊎ Untaken left_t was.down now.down down) × (now.down ≡ was.down)
+    (BothShut now → ⊥) × ((Untaken left_c was.up now.up up × (client' ≡ client) × (target' ≡ target)) ⊎ Untaken left_t was.down now.down down) × (now.down ≡ was.down)
 RoundEnds left_c left_t was now client client' target target' up down (Err Pumped.Moved) = ⊥
 RoundEnds left_c left_t was now client client' target target' up down (Err Pumped.Idle) = ⊥
 RoundEnds left_c left_t was now client client' target target' up down (Err Pumped.Ended) = ⊥

@@ -124,11 +124,12 @@ pub record Untaken (left : ℕ) (was now : Way) (given : List ℕ) : Type 0 wher
 
 -- ---- a piece from the source
 
+-- Where memory was refused the source was not called.
 abbrev pub TakeEnds : ℕ → Way → Way → Seen → Seen → List ℕ → Result ℕ Halt → Type 0
 TakeEnds left was now old new given (Ok n) = (length given ≡ n) × (n ≡ 0 → SourceRests left now old new)
 TakeEnds left was now old new given (Err Halt.Source) = Failed old new × Untaken left was now given
 TakeEnds left was now old new given (Err Halt.Sink) = ⊥
-TakeEnds left was now old new given (Err Halt.Memory) = Untaken left was now given
+TakeEnds left was now old new given (Err Halt.Memory) = Untaken left was now given × (new ≡ old)
 
 -- a piece of at most so many bytes was taken, or the end, which is read only where bytes could be
 pub record TakesPiece (left : ℕ) (was now : Way) (old new : Seen) (outcome : Result ℕ Halt) : Type 0 where
@@ -162,12 +163,12 @@ pub record SendsOn {A : Type 0} (was now : Way) (old new : Seen) (outcome : Resu
 
 -- ---- both
 
--- Behind a read that failed, and where memory was refused, the sink is as it was.
+-- Behind a read that failed the sink is as it was. Where memory was refused both links are.
 abbrev pub CarryEnds : ℕ → Way → Way → Seen → Seen → Seen → Seen → List ℕ → Result ℕ Halt → Type 0
 CarryEnds left was now source source' sink sink' given (Ok n) = (length given ≡ n) × (n ≡ 0 → SourceRests left now source source') × SinkRests now sink sink'
 CarryEnds left was now source source' sink sink' given (Err Halt.Source) = Failed source source' × Untaken left was now given × (sink' ≡ sink)
 CarryEnds left was now source source' sink sink' given (Err Halt.Sink) = Failed sink sink' × SinkIsDue now
-CarryEnds left was now source source' sink sink' given (Err Halt.Memory) = Untaken left was now given × (sink' ≡ sink)
+CarryEnds left was now source source' sink sink' given (Err Halt.Memory) = Untaken left was now given × (source' ≡ source) × (sink' ≡ sink)
 
 -- one direction was carried: a piece of at most so many bytes from its source, and what waits to its sink
 pub record Carries (left : ℕ) (was now : Way) (source source' sink sink' : Seen) (outcome : Result ℕ Halt) : Type 0 where

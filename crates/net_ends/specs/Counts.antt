@@ -1,5 +1,6 @@
--- Counts of faults and of NotYet, which never fall.
-use Rattle.std.specs.Prelude.{◌≤◌, ◌+◌, ◌-◌, ◌^◌, ℕ, min}
+-- Counts of faults and of NotYet, which never fall, and which kinds of calls are due to fail.
+use Rattle.std.specs.Prelude.{◌≤◌, ◌+◌, ◌-◌, ◌^◌, ℕ, min, Option}
+use Rattle.net_ends.specs.declared.kinds.Kinds.{Kinds}
 use Rattle.net_ends.specs.declared.link.Reading.{Reading}
 use Rattle.net_ends.specs.declared.link.Writing.{Writing}
 use Rattle.net_ends.specs.declared.link.Shutting.{Shutting}
@@ -8,10 +9,12 @@ use Rattle.net_ends.specs.declared.link.Shutting.{Shutting}
 abbrev pub Rose : ℕ → ℕ → Type 0
 Rose before now = min (before + 1) (2 ^ 64 - 1) ≤ now
 
+-- A link of memory tells which kinds of calls are due: the next call of each such kind fails, and no other call does.
 pub record Counts : Type 0 where
   pub faults : ℕ
   pub idle_reads : ℕ
   pub idle_writes : ℕ
+  pub due : Option Kinds
 
 -- no count fell
 pub record Later (old new : Counts) : Type 0 where

@@ -1,17 +1,21 @@
 -- The outside in memory: what each object holds, and what it tells of that.
-use Rattle.std.specs.Prelude.{◌≡◌, ℕ, Bool, true, false, Option, Some, None, List, [], find, option_map, bytes_eq}
+use Rattle.std.specs.Prelude.{◌≡◌, ℕ, Bool, true, false, Option, Some, None, List, [], ◌∷◌, find, option_map, bytes_eq}
 use Rattle.addr_pattern.specs.declared.endpoint.Endpoint.{Endpoint}
+use Rattle.net_ends.specs.declared.kinds.Kind.{Kind}
+use Rattle.net_ends.specs.declared.kinds.Kinds.{Kinds}
 use Rattle.net_ends.specs.declared.net.Lookup.{Lookup}
 use Rattle.net_ends.specs.Callers.{CallCounts, CallOutcome, CallerTold, returned_of}
 use Rattle.net_ends.specs.Counts.{Counts}
 use Rattle.net_ends.specs.Failing.{Failing, none_failing}
+use Rattle.net_ends.specs.Faults.{no_kind, with_kind}
 use Rattle.net_ends.specs.Nets.{DialOutcome, NetTold, NetCounts}
 use Rattle.net_ends.specs.Stores.{Files}
 use Rattle.net_ends.specs.Streams.{SourceTold}
 use Rattle.net_ends.specs.Told.{Told}
 
 -- a link: what arrived at it and what it gave of that, what it took and how many bytes it can take in all, and the most that
--- one write takes, where that is bounded; none of its calls is to fail where it is unfailing
+-- one write takes, where that is bounded; none of its calls is to fail where it is unfailing, else the numbered ones and the next of
+-- each kind of these
 pub record LinkInMemory : Type 0 where
   pub arrived : List ℕ
   pub ends : Bool
@@ -23,6 +27,7 @@ pub record LinkInMemory : Type 0 where
   pub shut : Bool
   pub unfailing : Bool
   pub failing : Failing
+  pub next_fail : Kinds
   pub counts : Counts
 
 -- it tells all of that
@@ -38,6 +43,19 @@ told_of_link link = record {
   unfailing = link.unfailing;
 }
 
+-- which kinds are due: where calls are to fail by their numbers, it doesn't tell
+abbrev pub due_of : List ℕ → Kinds → Option Kinds
+due_of [] kinds = Some kinds
+due_of (number ∷ numbers) kinds = None
+
+-- the next call of this kind is to fail too; where it tells which kinds are due, that one is among them
+abbrev pub with_next : LinkInMemory → Kind → LinkInMemory
+with_next link kind = record link {
+  unfailing = false;
+  next_fail = with_kind link.next_fail kind;
+  counts = record link.counts { due = option_map (λ kinds. with_kind kinds kind) link.counts.due };
+}
+
 -- nothing arrived at it, and it can take that many bytes
 abbrev pub fresh_link : ℕ → LinkInMemory
 fresh_link cap = record {
@@ -51,7 +69,8 @@ fresh_link cap = record {
   shut = false;
   unfailing = true;
   failing = none_failing;
-  counts = record { faults = 0; idle_reads = 0; idle_writes = 0 };
+  next_fail = no_kind;
+  counts = record { faults = 0; idle_reads = 0; idle_writes = 0; due = Some no_kind };
 }
 
 -- it has given and taken nothing yet, has not answered its end and wasn't shut
@@ -77,7 +96,7 @@ told_of_net net = record {
   lookups = None;
   dials = None;
   lookup_plan = Some net.lookup;
-  plan = Some (record { outcome = net.outcome; link = told_of_link net.link });
+  plan = Some (record { outcome = net.outcome; link = told_of_link net.link; due = net.link.counts.due });
 }
 
 -- it finds no name, its next dial is refused, and the link that waits can take that many bytes

@@ -1,6 +1,7 @@
 pub mod Callers
 pub mod Counts
 pub mod Failing
+pub mod Faults
 pub mod InMemory
 pub mod Nets
 pub mod Plans

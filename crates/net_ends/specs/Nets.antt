@@ -1,9 +1,10 @@
 -- What a net tells of its lookups and its dials.
 use Rattle.std.specs.Prelude.{◌≡◌, ◌≤◌, ℕ, Option, Some, None, List, [], ◌∷◌, ◌++◌}
 use Rattle.addr_pattern.specs.declared.endpoint.Endpoint.{Endpoint}
+use Rattle.net_ends.specs.declared.kinds.Kinds.{Kinds}
 use Rattle.net_ends.specs.declared.net.Dialing.{Dialing}
 use Rattle.net_ends.specs.declared.net.Lookup.{Lookup}
-use Rattle.net_ends.specs.Counts.{Rose}
+use Rattle.net_ends.specs.Counts.{Counts, Rose}
 use Rattle.net_ends.specs.Told.{Told}
 
 -- how a dial came out
@@ -26,10 +27,12 @@ pub record Dial : Type 0 where
   pub to : Endpoint
   pub outcome : DialOutcome
 
--- what a net of memory tells of its next dial: its outcome, and what the link tells that it gives
+-- what a net of memory tells of its next dial: its outcome, and what the link tells that it gives, and which kinds of calls on that
+-- are due to fail
 pub record Plan : Type 0 where
   pub outcome : DialOutcome
   pub link : Told
+  pub due : Option Kinds
 
 -- a lookup of a name, with its outcome
 pub record LookedUp : Type 0 where
@@ -94,9 +97,10 @@ IfUp Dialing.NetUnreachable p = Unit {0}
 IfUp Dialing.Failed p = Unit {0}
 
 -- the dial came out as planned
-pub record AsPlanned {L : Type 0} (told : L → Told) (plan : Plan) (dialing : Dialing L) : Type 0 where
+pub record AsPlanned {L : Type 0} (told : L → Told) (counts : L → Counts) (plan : Plan) (dialing : Dialing L) : Type 0 where
   pub outcome : outcome_of dialing ≡ plan.outcome
   pub link : IfUp dialing (λ link. told link ≡ plan.link)
+  pub due' : IfUp dialing (λ link. (counts link).due ≡ plan.due)
 
 -- a dial that gave no link leaves the plan as it was
 abbrev pub KeepsPlan : {L : Type 0} → Dialing L → Option Plan → Option Plan → Type 0

@@ -3,6 +3,7 @@
 
 mod caller;
 mod failing;
+mod kinds;
 mod link;
 mod memory_caller;
 mod memory_link;
@@ -18,6 +19,7 @@ mod stream;
 mod wire;
 
 pub use caller::{Caller, Calling};
+pub use kinds::{Kind, Kinds};
 pub use link::{Link, Reading, Shutting, Writing};
 pub use memory_caller::{CallPlan, MemCaller};
 pub use memory_link::MemLink;

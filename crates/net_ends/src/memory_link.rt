@@ -1,6 +1,7 @@
 ghost use Rattle.std.specs.Prelude.{ℕ, ◌≡◌, ◌≢◌, ◌<◌, ◌≤◌, ◌+◌, ◌-◌, ◌++◌, true, false, Some, IfOk, OnOk, OnErr, length};
 
 use crate::failing::FailingCalls;
+use crate::kinds::{Kind, Kinds};
 use crate::link::{Link, Reading, Shutting, Writing};
 use crate::pieces::{copy_front, rest_of};
 use conf_text::{Memory, Text};
@@ -20,14 +21,17 @@ pub struct MemLink {
     ended: bool,
     shut: bool,
     failing: FailingCalls,
+    next_fail: Kinds,
+    may_fail: bool,
     faults: u64,
     idle_reads: u64,
     idle_writes: u64,
 }
 
 impl Model for MemLink {
-    ghost use Rattle.std.specs.Prelude.{◌≡◌, ◌≤◌, ◌==◌, ℕ, true, length, take, vec_len, vec_capacity};
-    ghost use Rattle.net_ends.specs.InMemory.{LinkInMemory};
+    ghost use Rattle.std.specs.Prelude.{◌≡◌, ◌≤◌, ℕ, [], true, false, not, length, take, vec_len, vec_capacity};
+    ghost use Rattle.net_ends.specs.Faults.{no_kind};
+    ghost use Rattle.net_ends.specs.InMemory.{LinkInMemory, due_of};
 
     ghost Value = { LinkInMemory };
 
@@ -40,17 +44,18 @@ impl Model for MemLink {
       room = m.room;
       ended = m.ended;
       shut = m.shut;
-      unfailing = length m.failing.numbers == 0;
+      unfailing = not m.may_fail;
       failing = m.failing;
-      counts = record { faults = m.faults; idle_reads = m.idle_reads; idle_writes = m.idle_writes };
+      next_fail = m.next_fail;
+      counts = record { faults = m.faults; idle_reads = m.idle_reads; idle_writes = m.idle_writes; due = due_of m.failing.numbers m.next_fail };
     } };
 
-    ghost invariant = { λ m. (m.given ≤ length m.arrived) × (vec_len m.taken ≤ m.cap) × (m.cap ≤ vec_capacity m.taken) × (m.ended ≡ true → m.ends ≡ true) × (m.ended ≡ true → m.given ≡ length m.arrived) };
+    ghost invariant = { λ m. (m.given ≤ length m.arrived) × (vec_len m.taken ≤ m.cap) × (m.cap ≤ vec_capacity m.taken) × (m.ended ≡ true → m.ends ≡ true) × (m.ended ≡ true → m.given ≡ length m.arrived) × (m.may_fail ≡ false → m.failing.numbers ≡ []) × (m.may_fail ≡ false → m.next_fail ≡ no_kind) };
 }
 
 impl MemLink {
     ghost use Rattle.net_ends.specs.Failing.{with_failure};
-    ghost use Rattle.net_ends.specs.InMemory.{fresh_link};
+    ghost use Rattle.net_ends.specs.InMemory.{fresh_link, with_next};
 
     /// A link at which nothing has arrived yet, with room for that many bytes that it takes.
     pub fn make(alloc: Global, cap: usize) -> Result<MemLink, Memory>
@@ -67,6 +72,8 @@ impl MemLink {
                 ended: false,
                 shut: false,
                 failing: FailingCalls::none(alloc),
+                next_fail: Kinds::none(),
+                may_fail: false,
                 faults: 0,
                 idle_reads: 0,
                 idle_writes: 0,
@@ -89,6 +96,8 @@ impl MemLink {
             ended: false,
             shut: false,
             failing: FailingCalls::none(alloc),
+            next_fail: Kinds::none(),
+            may_fail: false,
             faults: 0,
             idle_reads: 0,
             idle_writes: 0,
@@ -140,10 +149,20 @@ impl MemLink {
 
     /// The call of this number, counted from 1 over all calls, is to fail.
     pub fn fail_at(&mut self, number: u64) -> Result<(), Memory>
-        ensures ok { OnOk result (self.new ≡ record self.old { unfailing = false; failing = with_failure self.old.failing number }) }
+        ensures ok { OnOk result (self.new ≡ record self.old { unfailing = false; failing = with_failure self.old.failing number; counts = record self.old.counts { due = None } }) }
         ensures err { OnErr result (self.new ≡ self.old) }
     {
-        self.failing.add(number)
+        self.failing.add(number)?;
+        self.may_fail = true;
+        Ok(())
+    }
+
+    /// The next call of this kind is to fail.
+    pub fn fail_next(&mut self, kind: Kind)
+        ensures { self.new ≡ with_next self.old kind }
+    {
+        self.next_fail = self.next_fail.with(kind);
+        self.may_fail = true;
     }
 
     /// How many bytes a write can take now.
@@ -184,6 +203,9 @@ impl MemLink {
 impl Link for MemLink {
     ghost use Rattle.net_ends.specs.Told.{after_read, after_write, after_shut, MayRead, MayWrite, MayShut, GivesArrived};
     ghost use Rattle.net_ends.specs.Counts.{Later, ReadCause, WriteCause, ShutCause};
+    ghost use Rattle.std.specs.Prelude.{◌||◌};
+    ghost use Rattle.net_ends.specs.Faults.{ReadTried, WriteTried, ShutTried, is_among, without_kind};
+    ghost use Rattle.net_ends.specs.declared.kinds.Kind.{Kind};
     ghost use Rattle.net_ends.specs.Failing.{after_call, is_to_fail, is_failed_reading, is_failed_writing, is_failed_shutting};
     ghost use Rattle.net_ends.specs.InMemory.{told_of_link};
 
@@ -198,12 +220,15 @@ impl Link for MemLink {
         ensures arrived { GivesArrived (told_of_link self.new) result }
         ensures later { Later self.old.counts self.new.counts }
         ensures cause { ReadCause self.old.counts self.new.counts result }
+        ensures tried { ReadTried self.old.counts self.new.counts result }
 
-        // Beside the clauses of the trait: it fails at the numbered calls and nowhere else.
+        // Beside the clauses of the trait: it fails at the numbered calls, at the next call of a kind that is to fail, and nowhere else.
         ensures counted { self.new.failing ≡ after_call self.old.failing }
-        ensures failed { is_failed_reading result ≡ is_to_fail self.new.failing }
+        ensures failed { is_failed_reading result ≡ is_to_fail self.new.failing || is_among self.old.next_fail Kind.Read }
+        ensures next { self.new.next_fail ≡ without_kind self.old.next_fail Kind.Read }
     {
-        if self.failing.next_fails() {
+        let numbered = self.failing.next_fails();
+        if self.next_fail.take_out(Kind::Read) || numbered {
             self.faults = self.faults.saturating_add(1);
             return Reading::Failed;
         }
@@ -227,12 +252,15 @@ impl Link for MemLink {
         ensures told { told_of_link self.new ≡ after_write (told_of_link self.old) result from.now }
         ensures later { Later self.old.counts self.new.counts }
         ensures cause { WriteCause self.old.counts self.new.counts result }
+        ensures tried { WriteTried self.old.counts self.new.counts result }
 
         // Beside the clauses of the trait, as for a read.
         ensures counted { self.new.failing ≡ after_call self.old.failing }
-        ensures failed { is_failed_writing result ≡ is_to_fail self.new.failing }
+        ensures failed { is_failed_writing result ≡ is_to_fail self.new.failing || is_among self.old.next_fail Kind.Write }
+        ensures next { self.new.next_fail ≡ without_kind self.old.next_fail Kind.Write }
     {
-        if self.failing.next_fails() {
+        let numbered = self.failing.next_fails();
+        if self.next_fail.take_out(Kind::Write) || numbered {
             self.faults = self.faults.saturating_add(1);
             return Writing::Failed;
         }
@@ -252,12 +280,15 @@ impl Link for MemLink {
         ensures told { told_of_link self.new ≡ after_shut (told_of_link self.old) result }
         ensures later { Later self.old.counts self.new.counts }
         ensures cause { ShutCause self.old.counts self.new.counts result }
+        ensures tried { ShutTried self.old.counts self.new.counts result }
 
         // Beside the clauses of the trait, as for a read.
         ensures counted { self.new.failing ≡ after_call self.old.failing }
-        ensures failed { is_failed_shutting result ≡ is_to_fail self.new.failing }
+        ensures failed { is_failed_shutting result ≡ is_to_fail self.new.failing || is_among self.old.next_fail Kind.Shut }
+        ensures next { self.new.next_fail ≡ without_kind self.old.next_fail Kind.Shut }
     {
-        if self.failing.next_fails() {
+        let numbered = self.failing.next_fails();
+        if self.next_fail.take_out(Kind::Shut) || numbered {
             self.faults = self.faults.saturating_add(1);
             return Shutting::Failed;
         }

@@ -1,5 +1,6 @@
 ghost use Rattle.std.specs.Prelude.{◌≡◌, ◌++◌, ◌+◌, true, false, Some, IfOk, OnOk, OnErr, option_copied};
 
+use crate::kinds::Kind;
 use crate::memory_link::MemLink;
 use crate::net::{Dialing, Lookup, Net};
 use addr_pattern::{Endpoint, Name};
@@ -56,7 +57,7 @@ impl Model for MemNet {
 }
 
 impl MemNet {
-    ghost use Rattle.net_ends.specs.InMemory.{fresh_net};
+    ghost use Rattle.net_ends.specs.InMemory.{fresh_net, with_next};
     ghost use Rattle.net_ends.specs.Plans.{planned};
 
     /// A net that finds no name and whose next dial is refused. The link that waits in it has room for that many bytes that it takes.
@@ -126,6 +127,13 @@ impl MemNet {
         self.link.set_room(most)
     }
 
+    /// The next call of this kind on the link that waits is to fail.
+    pub fn fail_next(&mut self, kind: Kind)
+        ensures { self.new ≡ record self.old { link = with_next self.old.link kind } }
+    {
+        self.link.fail_next(kind)
+    }
+
     /// Which name was looked up last.
     pub fn last_lookup(&self) -> Option<&Name>
         ensures { option_copied result ≡ self.now.last_lookup }
@@ -174,7 +182,7 @@ impl Net for MemNet {
 
     fn dial(&mut self, to: Endpoint) -> Dialing<MemLink>
         ensures told { (told_of_net self.new).dials ≡ dialled (told_of_net self.old).dials (record { to = to; outcome = outcome_of result }) }
-        ensures planned { (plan : Plan) → (told_of_net self.old).plan ≡ Some plan → AsPlanned told_of_link plan result }
+        ensures planned { (plan : Plan) → (told_of_net self.old).plan ≡ Some plan → AsPlanned told_of_link (λ link. link.counts) plan result }
         ensures kept { KeepsPlan result (told_of_net self.old).plan (told_of_net self.new).plan }
         ensures lookups { SameLookups (told_of_net self.old) (told_of_net self.new) }
         ensures fresh { IfUp result (λ link. IsFresh (told_of_link link)) }

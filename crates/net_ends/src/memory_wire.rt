@@ -1,4 +1,4 @@
-ghost use Rattle.std.specs.Prelude.{◌≡◌, ◌+◌, ◌++◌, true, false, Some, IfOk, OnOk, OnErr};
+ghost use Rattle.std.specs.Prelude.{◌≡◌, ◌+◌, ◌++◌, true, false, Some, None, IfOk, OnOk, OnErr};
 
 use crate::link::{Link, Reading, Shutting, Writing};
 use crate::memory_link::MemLink;
@@ -18,11 +18,16 @@ pub struct MemWire {
 }
 
 impl Model for MemWire {
+    ghost use Rattle.std.specs.Prelude.{◌≡◌};
+    ghost use Rattle.net_ends.specs.Faults.{no_kind};
     ghost use Rattle.net_ends.specs.InMemory.{LinkInMemory};
 
     ghost Value = { LinkInMemory };
 
-    ghost view = { λ m. record m.link { counts = record { faults = m.faults; idle_reads = m.idle; idle_writes = 0 } } };
+    ghost view = { λ m. record m.link { counts = record { faults = m.faults; idle_reads = m.idle; idle_writes = 0; due = m.link.counts.due } } };
+
+    // it fails at no call but the numbered ones
+    ghost invariant = { λ m. m.link.next_fail ≡ no_kind };
 }
 
 impl MemWire {
@@ -87,7 +92,7 @@ impl MemWire {
 
     /// The call of this number, counted from 1 over all calls, is to fail.
     pub fn fail_at(&mut self, number: u64) -> Result<(), Memory>
-        ensures ok { OnOk result (self.new ≡ record self.old { unfailing = false; failing = with_failure self.old.failing number }) }
+        ensures ok { OnOk result (self.new ≡ record self.old { unfailing = false; failing = with_failure self.old.failing number; counts = record self.old.counts { due = None } }) }
         ensures err { OnErr result (self.new ≡ self.old) }
     {
         self.link.fail_at(number)

@@ -44,7 +44,7 @@ pub trait Net {
 
     fn dial(&mut self, to: Endpoint) -> Dialing<Self::Link>
         ensures told { (told self.new).dials ≡ dialled (told self.old).dials (record { to = to; outcome = outcome_of result }) }
-        ensures planned { (plan : Plan) → (told self.old).plan ≡ Some plan → AsPlanned Self.Link.told plan result }
+        ensures planned { (plan : Plan) → (told self.old).plan ≡ Some plan → AsPlanned Self.Link.told Self.Link.counts plan result }
         ensures kept { KeepsPlan result (told self.old).plan (told self.new).plan }
         ensures lookups { SameLookups (told self.old) (told self.new) }
         ensures fresh { IfUp result (λ link. IsFresh (Self.Link.told link)) }

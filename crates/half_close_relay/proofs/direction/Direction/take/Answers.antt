@@ -8,7 +8,7 @@ returns-then-self g c = rw (← c.self.view_is) (unread _ _ _ c.then-self.either
 
 pub returns-then-is_err : goal.returns-then-is_err
 returns-then-is_err g c = rw (← c.self.view_is)
-    (stops _ _ _ _ _ _ c.reserve.ensures.items (gives-same _ _ refl (later-same _)) (unmoved _ _ c.if-self.false (still-open _ _ c.self.invariant c.if-self.false) (omega (arith, c.if-left-eq0.false))))
+    (stops _ _ _ _ _ _ c.reserve.ensures.items (gives-same _ _ refl (later-same _)) (unmoved _ _ c.if-self.false (still-open _ _ c.self.invariant c.if-self.false) (omega (arith, c.if-left-eq0.false)), refl))
 
 pub returns-in-End : goal.returns-in-End
 returns-in-End g c = rw (← c.self.view_is) (ends-here _ _ _ _ _ c.reserve.ensures.items c.if-self.false (omega (arith, c.if-left-eq0.false)) c.in-End.ensures.told c.in-End.ensures.later c.in-End.ensures.arrived)
