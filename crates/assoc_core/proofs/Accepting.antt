@@ -32,6 +32,7 @@ use Rattle.assoc_core.specs.Plain.{HasDecided, owed_c, owed_t}
 use Rattle.assoc_core.specs.Stands.{Stands, HoldsTarget}
 use Rattle.assoc_core.specs.Turns.{Turns, Acts, event_of, context, StopsReading}
 use Rattle.assoc_core.proofs.StandsLaws.{no_acts, target-same, same-outside, same-target}
+use Rattle.assoc_core.proofs.Tryings.{target-untried, tried-none}
 
 -- ---- the record behind it
 
@@ -180,6 +181,12 @@ fresh-turns told counts stands users pubs generation config cap h marks now net 
       full_t = λ h1. absurd (cc);
       room_c = λ h1. refl;
       room_t = λ h1. refl;
+      failed_c = None;
+      failed_t = None;
+      tried_c = tried-none (counts a.client) (refl, refl, refl) (refl, refl) refl;
+      tried_t = target-untried counts net a.target (refl, refl, refl) (refl, refl) refl;
+      fault_is = (refl, refl);
+      unwritten_is = refl;
       fails_c = λ h1. absurd (cc);
       unfailing = λ h1 h2. (refl, refl);
     }
@@ -226,6 +233,12 @@ fresh-turns told counts stands users pubs generation config cap h marks now net 
       full_t = λ h1. absurd (cc);
       room_c = λ h1. refl;
       room_t = λ h1. refl;
+      failed_c = None;
+      failed_t = None;
+      tried_c = tried-none (counts a.client) (refl, refl, refl) (refl, refl) refl;
+      tried_t = target-untried counts net a.target (refl, refl, refl) (refl, refl) refl;
+      fault_is = (refl, refl);
+      unwritten_is = refl;
       fails_c = λ h1. absurd (cc);
       unfailing = λ h1 h2. (refl, refl);
     }

@@ -7,6 +7,8 @@ use Rattle.conf_model.specs.declared.config.Config.{Config}
 use Rattle.conf_model.specs.declared.user.User.{User}
 use Rattle.conf_model.specs.Handshake.{Split}
 use Rattle.net_ends.specs.Counts.{Counts, Rose}
+use Rattle.net_ends.specs.Faults.{Tried}
+use Rattle.net_ends.specs.declared.kinds.Kind.{Kind}
 use Rattle.net_ends.specs.Nets.{NetTold}
 use Rattle.net_ends.specs.Told.{Told, more}
 use Rattle.socks_machine.specs.declared.cause.Cause.{Cause}
@@ -34,16 +36,17 @@ use Rattle.assoc_core.specs.declared.send.Sent.{Sent}
 use Rattle.assoc_core.specs.Closing.{Closed}
 use Rattle.assoc_core.specs.Hearing.{HasHeard}
 use Rattle.assoc_core.specs.Plain.{IsPlainRecord, owed_c, is_failed_split}
-use Rattle.assoc_core.specs.Sending.{Sends, SendEnds}
+use Rattle.assoc_core.specs.Sending.{Sends, SendEnds, failed_sending, is_full}
 use Rattle.assoc_core.specs.Stands.{GivesFirst}
-use Rattle.assoc_core.specs.Turns.{Turns, StopsReading, links, context, IsIdle, IsFull}
+use Rattle.assoc_core.specs.Turns.{Turns, StopsReading, links, context, IsIdle, IsFull, is_write}
 use Rattle.assoc_core.proofs.LinksHeld.{short}
 use Rattle.assoc_core.proofs.Sendings.{rose-before, rose-after}
 use Rattle.assoc_core.proofs.PlainRecords.{and-false}
 use Rattle.assoc_core.proofs.Talking.{Hearing, heard_takings, basis_of, context_of, before, heard, split_heard, takes-open, settled-more, heard-nothing, phase-more}
 use Rattle.assoc_core.proofs.TalkTurns.{turns-talked, talk_acts, talk_event, heard_told}
 use Rattle.assoc_core.proofs.TalkCloses.{turns-closed, caused, talk-stages}
-use Rattle.assoc_core.proofs.HeardTurns.{Fits, hearing_of, behind-is, heard-as, stands-before, turns-before, owes_now, owes-caused, owes-fault, plain-caused, first-sent}
+use Rattle.assoc_core.proofs.Tryings.{added-none, tried-as, tried-on}
+use Rattle.assoc_core.proofs.HeardTurns.{Fits, hearing_of, behind-is, heard-as, heard-tried, stands-before, turns-before, owes_now, owes-caused, owes-fault, plain-caused, first-sent}
 
 -- ---- what was sent
 
@@ -69,6 +72,11 @@ still-left sent y rest owed e some =
 pub told-sent : (old mid new : Told) (x y : List ℕ) (ends : Bool) → mid ≡ record old { given = more old.given x; ended = ends || old.ended } → new ≡ record mid { taken = more mid.taken y }
     → new ≡ heard_told old x y ends
 told-sent old mid new x y ends h k = k ∙ ap (λ (z : Told). let u : Told = record z { taken = more z.taken y } in u) h
+
+-- where writes are due to fail nothing was sent
+pub sent-tried : (old new : Told) (counts counts' : Counts) (before after pending : List ℕ) (outcome : Sent) → (h : Sends old new counts counts' before after pending outcome)
+    → Tried counts counts' (Unit {0}) ((h.bytes ≡ []) × (is_full outcome ≡ false)) (Unit {0}) (failed_sending outcome)
+sent-tried old new counts counts' before after pending outcome h = tried-as h.tried (λ x. tt) (λ x. (added-none before after h.bytes h.after' x.0, x.1)) (λ x. tt)
 
 -- ---- nothing is late
 
@@ -130,9 +138,10 @@ pub waits-for : {L : Type 0} (told : L → Told) (counts : L → Counts) (stands
     (now : ℕ) (net : NetTold) (a b : Assoc L) (client : L) (s : Record) (full : Bool) (outcome : Sent) → HasHeard told counts (socks users pubs) generation config a b None Heard.NotYet → (a.state).since ≡ now → stands h marks
     → s ≡ (let r = b.state in record r { sent_c = s.sent_c })
     → Sends (told b.client) (told client) (counts b.client) (counts client) (b.state).sent_c s.sent_c (drop (length (b.state).sent_c) (owed_c b.state)) outcome
+    → (is_full outcome ≡ full) × (failed_sending outcome ≡ None)
     → ((rest : List ℕ) → SendEnds (told client) (counts b.client) (counts client) rest outcome → (full ≡ false → rest ≡ []) × (full ≡ true → (0 < length rest) × IsFull (told client) × Rose (counts b.client).idle_writes (counts client).idle_writes))
     → Turns told counts stands (context users pubs generation config most h marks) now net net a (Next.Wait (with_link b s client))
-waits-for told counts stands users pubs generation config most h marks now net a b client s full outcome k since desk state' sends by =
+waits-for told counts stands users pubs generation config most h marks now net a b client s full outcome k since desk state' sends goes by =
     turns-before told counts stands users pubs generation config most h marks now net a b Heard.NotYet (Next.Wait (with_link b s client)) k since
     (turns-talked told counts stands t (t.party).since net a (Next.Wait (with_link b s client)) sends'.bytes false None true full None false
     (stands-before told counts users pubs generation config most h marks a b Heard.NotYet k) (record {
@@ -168,6 +177,11 @@ waits-for told counts stands users pubs generation config most h marks now net a
         rose-before _ _ _ ((k.hears).later).idle_writes ((by sends'.rest sends'.ends).1 e1).2,
         short s.sent_c sends'.rest (owes_now t None) owed-plain ((by sends'.rest sends'.ends).1 e1).0,
       );
+      failed = failed_sending outcome;
+      tried = tried-on (heard-tried (told a.client) (told b.client) (counts a.client) (counts b.client) (a.state).c (b.state).c Heard.NotYet k.hears)
+          (sent-tried (told b.client) (told client) (counts b.client) (counts client) t.sent s.sent_c _ outcome sends') (λ x y. x) (λ x y. (y.0, sym goes.0 ∙ y.1)) (λ x y. tt);
+      fault_is = (goes.1, refl);
+      unwritten_is = sym (ap is_write goes.1);
       fails_c = λ e1. absurd (cc);
       unfailing = λ e1. (refl, refl);
     }))
@@ -231,6 +245,11 @@ writes-fail told counts stands users pubs generation config most h marks now net
       at_end = λ e1. absurd (cc);
       first = subst GivesFirst (sym sends'.told') ((k.hears).first (k.stands).client_first);
       idle_c = λ e1. (subst IsIdle (sym sends'.told') (k.hears).ends.0, rose-after _ _ _ (k.hears).ends.1 (sends'.later).idle_reads);
+      failed = Some Kind.Write;
+      tried = tried-on (heard-tried (told a.client) (told b.client) (counts a.client) (counts b.client) (a.state).c (b.state).c Heard.NotYet k.hears)
+          (sent-tried (told b.client) (told client) (counts b.client) (counts client) t.sent s.sent_c _ Sent.Failed sends') (λ x y. x) (λ x y. y.0) (λ x y. tt);
+      fault_is = refl;
+      unwritten_is = refl;
       fails_c = λ e1. rose-before _ _ _ ((k.hears).later).faults (sends'.ends).2;
       unfailing = λ e1. absurd (clash e1 (sends'.ends).1);
     }))

@@ -5,6 +5,7 @@ use Rattle.addr_pattern.specs.declared.endpoint.Endpoint.{Endpoint}
 use Rattle.conf_model.specs.declared.protocol.Version.{Version}
 use Rattle.conf_model.specs.Handshake.{Request, Split, version_of}
 use Rattle.net_ends.specs.Counts.{Counts, Later, Rose}
+use Rattle.net_ends.specs.Faults.{Tried}
 use Rattle.net_ends.specs.Nets.{NetTold}
 use Rattle.net_ends.specs.Told.{Told, more}
 use Rattle.socks_machine.specs.declared.cause.Cause.{Cause}
@@ -33,15 +34,16 @@ use Rattle.assoc_core.specs.declared.assoc.Assoc.{Assoc}
 use Rattle.assoc_core.specs.declared.assoc.Next.{Next}
 use Rattle.assoc_core.specs.declared.send.Sent.{Sent}
 use Rattle.assoc_core.specs.Plain.{IsPlainRecord, HasDecided, HasChosen, split_by, owed_c, owed_t, opening_owed, refusal_owed, refused_at, plain_to_client, is_login_failed, is_failed_split}
-use Rattle.assoc_core.specs.Sending.{Sends, SendEnds, WritesOn, is_full, is_failed, with_failure}
+use Rattle.assoc_core.specs.Sending.{Sends, SendEnds, WritesOn, failed_sending, is_full, is_failed, with_failure}
 use Rattle.assoc_core.specs.Stands.{GivesFirst, GoesDirect, Stands}
-use Rattle.assoc_core.specs.Turns.{Turns, StopsReading, links, IsFull}
-use Rattle.assoc_core.proofs.Answering.{all-owed, still-left, told-sent}
+use Rattle.assoc_core.specs.Turns.{Turns, FaultIs, StopsReading, links, IsFull, is_write}
+use Rattle.assoc_core.proofs.Answering.{all-owed, sent-tried, still-left, told-sent}
 use Rattle.assoc_core.proofs.LinksHeld.{short}
 use Rattle.assoc_core.proofs.PlainRecords.{and-false, plain-owes-client}
 use Rattle.assoc_core.proofs.Rests.{aged-same}
 use Rattle.assoc_core.proofs.Sendings.{rose-before}
 use Rattle.assoc_core.proofs.TalkCloses.{sends}
+use Rattle.assoc_core.proofs.Tryings.{tried-on}
 use Rattle.assoc_core.proofs.Talking.{Speaking, talker, spoken_to, spoken_in, unspoken, spoken, chosen_behind, spoken_takings}
 use Rattle.assoc_core.proofs.TalkTurns.{CallsOut, turns-called, speak_acts, speak_event, with_state}
 
@@ -221,6 +223,7 @@ pub record Arrives {L : Type 0} (told : L → Told) (counts : L → Counts) (k :
   pub standing : Stands told (spoken_to k.said) (with_state a (unspoken k.said))
   pub told' : told client ≡ record (told a.client) { given = more (told a.client).given (k.said).x; ended = false || (told a.client).ended }
   pub later : Later (counts a.client) (counts client)
+  pub tried : Tried (counts a.client) (counts client) ((k.said).x ≡ []) (Unit {0}) (Unit {0}) None
   pub first : GivesFirst (told client)
 
 -- why the write stopped
@@ -236,6 +239,16 @@ ask-ends told counts counts' rest Sent.Failed h = record { full' = λ e. absurd 
 pub no-fault : (failed : Bool) → (failed ≡ true → ⊥) → (fault_of failed ≡ None) × (failed ≡ false)
 no-fault true h = absurd (h refl)
 no-fault false h = (refl, refl)
+
+pub fault-sending : (outcome : Sent) → FaultIs (fault_of (is_failed outcome)) (failed_sending outcome) None
+fault-sending Sent.All = (refl, refl)
+fault-sending Sent.Full = (refl, refl)
+fault-sending Sent.Failed = refl
+
+pub unwritten-sending : (outcome : Sent) → is_failed outcome ≡ is_write (failed_sending outcome)
+unwritten-sending Sent.All = refl
+unwritten-sending Sent.Full = refl
+unwritten-sending Sent.Failed = refl
 
 pub has-failed : (failed : Bool) → fault_of failed ≡ Some Object.Client → failed ≡ true
 has-failed true h = refl
@@ -282,6 +295,10 @@ asks-turn {L = L} told counts stands k outer ds refused h marks net net' a b nex
         rose-before _ _ _ (j.later).idle_writes (ends.full' e1).2,
         short w.sent sends'.rest _ (owed-now ∙ (sym (fault-owes k.said failed refused) ∙ sym (owes-alone k.said ds w.sent (with_failure failed (first_cause refused None)) m.unreached))) (ends.full' e1).0,
       );
+      failed = failed_sending w.outcome;
+      tried = tried-on j.tried (sent-tried (told b.client) (told w.client) (counts b.client) (counts w.client) (k.said).sent w.sent _ w.outcome sends') (λ x y. (x, refl, refl)) (λ x y. y) (λ x y. tt);
+      fault_is = fault-sending w.outcome;
+      unwritten_is = unwritten-sending w.outcome;
       fails_c = λ e1. rose-before _ _ _ (j.later).faults (ends.failed' (has-failed failed e1)).2;
       unfailing = λ e1. no-fault failed (λ e2. clash e1 (ends.failed' e2).1);
     })

@@ -33,11 +33,12 @@ use Rattle.handshake_core.specs.declared.request.Request.{Request as RequestIs}
 use Rattle.handshake_core.specs.Answers.{request_in}
 use Rattle.assoc_core.proofs.AskTurns.{Asked, Arrives}
 use Rattle.assoc_core.proofs.Choosing.{chosen-still}
-use Rattle.assoc_core.proofs.HeardTurns.{hearing_of, stands-before, first-sent}
+use Rattle.assoc_core.proofs.HeardTurns.{hearing_of, heard-tried, stands-before, first-sent}
 use Rattle.assoc_core.proofs.PlainRecords.{judging-phase, seek-phase}
 use Rattle.assoc_core.proofs.Reaching.{same-opening}
 use Rattle.assoc_core.proofs.Talking.{Hearing, Speaking, talker, basis_of, heard, speaking, split_heard, has-answered, takes-open, heard-nothing, spoken_to, spoken_in, unspoken, spoken, chosen_behind, spoken_takings}
 use Rattle.assoc_core.proofs.TalkTurns.{with_state}
+use Rattle.assoc_core.proofs.Tryings.{tried-as}
 
 -- ---- behind what was heard
 
@@ -94,6 +95,7 @@ arrives-heard told counts users pubs generation config most h marks a b request 
   standing = subst (λ (s : Speaking). Stands told (spoken_to s) (with_state a (unspoken s))) (sym is) (stands-before told counts users pubs generation config most h marks a b (HasAsked request) k);
   told' = subst (λ (s : Speaking). told b.client ≡ (let t = told a.client in record t { given = more t.given s.x; ended = false || t.ended })) (sym is) (k.hears).told';
   later = (k.hears).later;
+  tried = tried-as (heard-tried (told a.client) (told b.client) (counts a.client) (counts b.client) (a.state).c (b.state).c (HasAsked request) k.hears) (λ x. ap (λ (s : Speaking). s.x) is ∙ x.0) (λ x. tt) (λ x. tt);
   first = (k.hears).first (k.stands).client_first;
 }
 
@@ -232,6 +234,7 @@ arrives-found told counts users pubs generation config most h marks a b l reques
       (subst (λ (r : Record). Stands told (socks users pubs) (with_state a r)) (found-before told counts users pubs generation config most h marks a b l request k) k.stands);
   told' = subst (λ (s : Speaking). told b.client ≡ (let t = told a.client in record t { given = more t.given s.x; ended = false || t.ended })) (sym is) (k.hears).told';
   later = (k.hears).later;
+  tried = tried-as (heard-tried (told a.client) (told b.client) (counts a.client) (counts b.client) (a.state).c (b.state).c (HasAsked request) k.hears) (λ x. ap (λ (s : Speaking). s.x) is ∙ x.0) (λ x. tt) (λ x. tt);
   first = (k.hears).first (k.stands).client_first;
 }
 

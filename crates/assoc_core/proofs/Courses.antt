@@ -180,6 +180,12 @@ over-desk told counts stands h marks s now net net' a next stood t = record {
   full_t = t.full_t;
   room_c = t.room_c;
   room_t = t.room_t;
+  failed_c = t.failed_c;
+  failed_t = t.failed_t;
+  tried_c = t.tried_c;
+  tried_t = t.tried_t;
+  fault_is = t.fault_is;
+  unwritten_is = t.unwritten_is;
   fails_c = t.fails_c;
   unfailing = t.unfailing;
 }

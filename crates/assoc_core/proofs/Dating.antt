@@ -6,6 +6,7 @@ use Rattle.conf_model.specs.declared.protocol.Version.{Version}
 use Rattle.conf_model.specs.declared.user.User.{User}
 use Rattle.conf_model.specs.Handshake.{version_of}
 use Rattle.net_ends.specs.Counts.{Counts, Rose}
+use Rattle.net_ends.specs.Faults.{Tried}
 use Rattle.net_ends.specs.Nets.{NetTold}
 use Rattle.net_ends.specs.Told.{Told}
 use Rattle.socks_machine.specs.declared.cause.Cause.{Cause}
@@ -33,7 +34,7 @@ use Rattle.assoc_core.specs.Closing.{Closed}
 use Rattle.assoc_core.specs.Moment.{movement, moment, at_moment, limit_of, is_late_by, cause_by}
 use Rattle.assoc_core.specs.Plain.{owed_c, owed_t, opening_owed, refused_at, plain_to_client}
 use Rattle.assoc_core.specs.Stands.{GoesDirect, Holds, HoldsTarget, EndsBehind, GivesFirst}
-use Rattle.assoc_core.specs.Turns.{Acts, Turns, GoesOn, event_of, context, mark_of, left_of, IsIdle, IsFull, IsThereAnd, SameOutside, SameTarget, DialsAre, LookupsAre, PlanStays, IsOuterOf}
+use Rattle.assoc_core.specs.Turns.{Acts, Turns, GoesOn, event_of, context, mark_of, left_of, IsIdle, IsFull, IsThereAnd, SameOutside, SameTarget, DialsAre, LookupsAre, PlanStays, IsOuterOf, TriedTarget}
 use Rattle.assoc_core.proofs.Lateness.{waits-uncalled, CalledNothing, turns-late, cause_late}
 use Rattle.assoc_core.proofs.Moments.{turns-at}
 use Rattle.assoc_core.proofs.Movements.{Moves, aged-moment, late-is, limit-is, plain-dated}
@@ -142,6 +143,12 @@ redone {L} told counts stands stands' s now net net' a next next' t outer h = re
   );
   room_c = t.room_c;
   room_t = t.room_t;
+  failed_c = t.failed_c;
+  failed_t = t.failed_t;
+  tried_c = subst (λ (l : L). Tried (counts a.client) (counts l) ((t.acts.c ≡ []) × (t.acts.end_c ≡ false) × (t.acts.idle_c ≡ false)) ((t.acts.sent_c ≡ 0) × (t.acts.full_c ≡ false)) (t.acts.shut_c ≡ false) t.failed_c) (sym h.client) t.tried_c;
+  tried_t = subst (λ (l : Option L). TriedTarget counts net a.target l ((t.acts.t ≡ []) × (t.acts.end_t ≡ false) × (t.acts.idle_t ≡ false)) ((t.acts.sent_t ≡ 0) × (t.acts.full_t ≡ false)) (t.acts.shut_t ≡ false) t.failed_t) (sym h.target) t.tried_t;
+  fault_is = t.fault_is;
+  unwritten_is = t.unwritten_is;
   fails_c = λ e. subst (λ (l : L). Rose (counts a.client).faults (counts l).faults) (sym h.client) (t.fails_c e);
   unfailing = t.unfailing;
 }

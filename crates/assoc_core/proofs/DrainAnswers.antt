@@ -6,6 +6,7 @@ use Rattle.conf_model.specs.declared.config.Config.{Config}
 use Rattle.conf_model.specs.declared.protocol.Command.{Command}
 use Rattle.conf_model.specs.declared.user.User.{User}
 use Rattle.net_ends.specs.Counts.{Counts, Rose}
+use Rattle.net_ends.specs.Faults.{Tried}
 use Rattle.net_ends.specs.Nets.{NetTold}
 use Rattle.net_ends.specs.Told.{Told}
 use Rattle.socks_machine.specs.declared.cause.Cause.{Cause}
@@ -29,18 +30,29 @@ use Rattle.assoc_core.specs.declared.assoc.Assoc.{Assoc}
 use Rattle.assoc_core.specs.declared.assoc.Ended.{Ended}
 use Rattle.assoc_core.specs.declared.assoc.Next.{Next}
 use Rattle.assoc_core.specs.declared.carry.Give.{Give}
-use Rattle.assoc_core.specs.Carrying.{GivesPart, is_sound, is_full}
+use Rattle.assoc_core.specs.Carrying.{GivesPart, is_sound, is_full, failed_giving}
 use Rattle.assoc_core.specs.Closing.{Closed}
 use Rattle.assoc_core.specs.Draining.{SendsClient, SendsTarget}
 use Rattle.assoc_core.specs.Plain.{IsPlainRecord, HasDecided, Untargeted, owed_c, owed_t, plain_to_target, prelude_of, Sought, behind_lookup}
 use Rattle.assoc_core.specs.Stands.{Holds, HoldsTarget, Stands, EndsBehind, GivesFirst}
-use Rattle.assoc_core.specs.Turns.{context, Turns, left_of, IsFull, IsThereAnd, IsUnfailing, TakesNothing, SameOutside, SameTarget}
+use Rattle.assoc_core.specs.Turns.{context, Turns, left_of, IsFull, IsThereAnd, IsUnfailing, TakesNothing, SameOutside, SameTarget, FaultIs, TriedTarget, is_write}
 use Rattle.assoc_core.proofs.Drains.{drained, Drains, DrainFault, DrainTurn, drain-closes, drain-waits, drain-turns}
 use Rattle.assoc_core.proofs.LinksHeld.{holds-given, ends-given, first-given, outside-given}
 use Rattle.assoc_core.proofs.PassLaws.{full-of, unsound-of, nothing-of, sound-written}
 use Rattle.assoc_core.proofs.PlainRecords.{decided-forms, at-behind, unreached-behind, has-judged, has-dialled}
 use Rattle.assoc_core.proofs.RelayRecords.{asked-as, plain-tcp}
+use Rattle.assoc_core.proofs.PassKinds.{sound-none, unsound-kind}
+use Rattle.assoc_core.proofs.Tryings.{added-none, target-same, tried-as}
 use Rattle.assoc_core.proofs.RelaySums.{clash, sent-on, none-left, all-sent}
+
+-- ---- tests
+
+pub or-left : (a b : Bool) → a ≡ true → a || b ≡ true
+or-left a b h = ap (λ z. z || b) h
+
+pub or-right : (a b : Bool) → b ≡ true → a || b ≡ true
+or-right true b h = refl
+or-right false b h = h
 
 -- ---- a link that is not shut
 
@@ -58,6 +70,15 @@ some-unsent {shut = shut} k h = by-unsound (unsound-of k h).2
     by-unsound : (0 < length k.rest) ⊎ ((false ≡ true) × (shut ≡ false)) → 0 < length k.rest
     by-unsound (inl e) = e
     by-unsound (inr e) = absurd (let f : false ≡ true = e.0 in cc)
+
+-- the call that failed is a write
+unsound-write : {old new : Told} {counts counts' : Counts} {before after pending : List ℕ} {gives was shut : Bool} (give : Give) → GivesPart old new counts counts' before after pending gives false was shut give
+    → is_sound give ≡ false → is_write (failed_giving give) ≡ true
+unsound-write Give.Held k h = absurd (cc)
+unsound-write Give.All k h = absurd (cc)
+unsound-write Give.Full k h = absurd (cc)
+unsound-write Give.Unwritten k h = refl
+unsound-write Give.Unshut k h = let e : false ≡ true = k.why.1 in absurd (cc)
 
 -- ---- the target
 
@@ -81,7 +102,7 @@ plain-target users r at plain reaches = decided-forms users r (λ ds. reached_at
     has-one g rule (Some l) ds h = h
 
 -- what a turn in Closing sends to its target
-pub record DrainedTarget {L : Type 0} (told : L → Told) (net : NetTold) (old new : Record) (sent_c : List ℕ) (target target' : Option L) (give : Give) : Type 0 where
+pub record DrainedTarget {L : Type 0} (told : L → Told) (counts : L → Counts) (net : NetTold) (old new : Record) (sent_c : List ℕ) (target target' : Option L) (give : Give) : Type 0 where
   pub part : List ℕ
   pub rest : List ℕ
   pub owes : (old.sent_t ++ part) ++ rest ≡ owed_t old
@@ -91,11 +112,13 @@ pub record DrainedTarget {L : Type 0} (told : L → Told) (net : NetTold) (old n
   pub stuck : TakesNothing told net target → part ≡ []
   pub nothing : is_sound give ≡ true → is_nothing rest ≡ not (is_full give)
   pub full : is_full give ≡ true → (0 < length rest) × IsThereAnd target' (λ link. IsFull (told link))
+  pub tried : TriedTarget counts net target target' (Unit {0}) ((part ≡ []) × (is_full give ≡ false)) (Unit {0}) (failed_giving give)
+  pub written : is_sound give ≡ false → is_write (failed_giving give) ≡ true
   pub unsound : is_sound give ≡ false → (0 < length rest) × (has_target old ≡ true) × (IsUnfailing told net target → ⊥)
 
-pub target-drained : {L : Type 0} (users : List User) (told : L → Told) (net : NetTold) (old new : Record) (sent_c : List ℕ) (target target' : Option L) (give : Give) → IsPlainRecord users old → HoldsTarget told old target
-    → SendsTarget told target target' (record old { sent_c = sent_c }) new give → DrainedTarget told net old new sent_c target target' give
-target-drained users told net old new sent_c None None give plain held sends = record {
+pub target-drained : {L : Type 0} (users : List User) (told : L → Told) (counts : L → Counts) (net : NetTold) (old new : Record) (sent_c : List ℕ) (target target' : Option L) (give : Give) → IsPlainRecord users old → HoldsTarget told old target
+    → SendsTarget told counts target target' (record old { sent_c = sent_c }) new give → DrainedTarget told counts net old new sent_c target target' give
+target-drained users told counts net old new sent_c None None give plain held sends = record {
   part = [];
   rest = [];
   owes = ap (λ z. (z ++ []) ++ []) held.2 ∙ sym (ap (plain_to_target (prelude_of old) old.c) held.0);
@@ -105,11 +128,13 @@ target-drained users told net old new sent_c None None give plain held sends = r
   stuck = λ e. refl;
   nothing = λ h. ap (λ g. not (is_full g)) (sym sends.1);
   full = λ h. let e : is_full Give.Held ≡ true = ap is_full (sym sends.1) ∙ h in absurd (cc);
+  tried = (ap failed_giving sends.1, tt, (refl, ap is_full sends.1), tt);
+  written = λ h. let e : is_sound Give.Held ≡ false = ap is_sound (sym sends.1) ∙ h in absurd (cc);
   unsound = λ h. let e : is_sound Give.Held ≡ false = ap is_sound (sym sends.1) ∙ h in absurd (cc);
 }
-target-drained users told net old new sent_c None (Some link') give plain held sends = absurd sends
-target-drained users told net old new sent_c (Some link) None give plain held sends = absurd sends
-target-drained {L} users told net old new sent_c (Some link) (Some link') give plain held sends = record {
+target-drained users told counts net old new sent_c None (Some link') give plain held sends = absurd sends
+target-drained users told counts net old new sent_c (Some link) None give plain held sends = absurd sends
+target-drained {L} users told counts net old new sent_c (Some link) (Some link') give plain held sends = record {
   part = sends.gives.part;
   rest = sends.gives.rest;
   owes = sent-on old.sent_t sends.gives.part sends.gives.rest (owed_t old) plain.sent_t (sends.gives.pending' ∙ ap (drop (length old.sent_t)) (sym (ap (plain_to_target (prelude_of old) old.c) held.0.1)));
@@ -125,6 +150,8 @@ target-drained {L} users told net old new sent_c (Some link) (Some link') give p
   stuck = sends.gives.stuck;
   nothing = λ h. nothing-of sends.gives refl (sound-written give h);
   full = λ h. let f = full-of sends.gives h in (f.0, f.1);
+  tried = tried-as sends.gives.tried (λ x. x) (λ x. (added-none _ _ _ sends.gives.after' x.0, x.1)) (λ x. tt);
+  written = unsound-write give sends.gives;
   unsound = λ h. (some-unsent sends.gives h, plain-target users old held.0.0 plain held.0.1, λ fine. clash ((told link).unfailing) fine (sym (outside-given sends.gives).unfailing ∙ (unsound-of sends.gives h).0));
 }
 
@@ -143,6 +170,8 @@ pub record DrainedClient (old mid : Record) (told told' : Told) (counts counts' 
   pub stuck : told.room ≡ Some 0 → part ≡ []
   pub nothing : is_sound give ≡ true → is_nothing rest ≡ not (is_full give)
   pub full : is_full give ≡ true → (0 < length rest) × IsFull told' × Rose counts.idle_writes counts'.idle_writes
+  pub tried : Tried counts counts' (Unit {0}) ((part ≡ []) × (is_full give ≡ false)) (Unit {0}) (failed_giving give)
+  pub written : is_sound give ≡ false → is_write (failed_giving give) ≡ true
   pub unsound : is_sound give ≡ false → (0 < length rest) × Rose counts.faults counts'.faults × (told.unfailing ≡ true → ⊥)
 
 pub client-drained : (users : List User) (old mid : Record) (told told' : Told) (counts counts' : Counts) (give : Give) → IsPlainRecord users old → Holds told old.c old.sent_c old.end_c old.shut_c → EndsBehind told → GivesFirst told
@@ -160,6 +189,8 @@ client-drained users old mid told told' counts counts' give plain held ends' fir
   stuck = sends.gives.stuck;
   nothing = λ h. nothing-of sends.gives refl (sound-written give h);
   full = λ h. full-of sends.gives h;
+  tried = tried-as sends.gives.tried (λ x. x) (λ x. (added-none _ _ _ sends.gives.after' x.0, x.1)) (λ x. tt);
+  written = unsound-write give sends.gives;
   unsound = λ h. let f = unsound-of sends.gives h in (some-unsent sends.gives h, f.1, λ fine. clash told.unfailing fine (sym (outside-given sends.gives).unfailing ∙ f.0));
 }
 
@@ -273,6 +304,12 @@ client-failed {L} told counts stands users pubs generation config cap h marks no
       stuck_t = λ e. refl;
       is_full_c = λ k. absurd (cc);
       is_full_t = λ k. absurd (cc);
+      failed_c = failed_giving gave_c;
+      failed_t = None;
+      tried_c = tried-as d.tried (λ x. x) (λ x. (x.0, refl)) (λ x. x);
+      tried_t = target-same counts net a.target e.target target tt (refl, refl) tt;
+      fault_is = sym (unsound-kind gave_c) ∙ ap not unsound;
+      unwritten_is = sym (ap (λ b. b || false) (d.written unsound));
       fails_c = λ k. (d.unsound unsound).1;
       unfailing = λ fine fine_t. absurd ((d.unsound unsound).2 fine);
     }) (d.unsound unsound).0 (d.is ∙ (λ i. record a.state { sent_c = a.state.sent_c ++ d.part; sent_t = sym (append-nil a.state.sent_t) i })) closed same (or-written (is_nothing d.rest && is_nothing st.plain.sent_t.0) (is_quiet (Some cause)))
@@ -293,11 +330,11 @@ record SentBoth {L : Type 0} (told : L → Told) (counts : L → Counts) (basis 
   pub st : Stands told basis a
   pub caused : a.state.cause ≡ Some cause
   pub c : DrainedClient a.state between (told a.client) (told (left_of next).client) (counts a.client) (counts (left_of next).client) gave_c
-  pub t : DrainedTarget told net a.state mid.state (a.state.sent_c ++ c.part) a.target (left_of next).target gave_t
+  pub t : DrainedTarget told counts net a.state mid.state (a.state.sent_c ++ c.part) a.target (left_of next).target gave_t
 
 sent-both : {L : Type 0} {basis : Basis} (told : L → Told) (counts : L → Counts) (net : NetTold) (a mid : Assoc L) (next : Next L) (between : Record) (cause : Cause) (gave_c gave_t : Give) → Stands told basis a → a.state.cause ≡ Some cause
     → (left_of next).client ≡ mid.client → (left_of next).target ≡ mid.target
-    → SendsClient (told a.client) (told mid.client) (counts a.client) (counts mid.client) a.state between gave_c → SendsTarget told a.target mid.target between mid.state gave_t
+    → SendsClient (told a.client) (told mid.client) (counts a.client) (counts mid.client) a.state between gave_c → SendsTarget told counts a.target mid.target between mid.state gave_t
     → SentBoth told counts basis net a mid next between cause gave_c gave_t
 sent-both {L} {basis} told counts net a mid next between cause gave_c gave_t st caused client target sends_c sends_t = record { st = st; caused = caused; c = d; t = t }
   where
@@ -305,10 +342,10 @@ sent-both {L} {basis} told counts net a mid next between cause gave_c gave_t st 
     d = client-drained basis.users a.state between _ _ _ _ gave_c st.plain st.client st.client_ends st.client_first
         (subst (λ (z : L). SendsClient (told a.client) (told z) (counts a.client) (counts z) a.state between gave_c) (sym client) sends_c)
 
-    t : DrainedTarget told net a.state mid.state (a.state.sent_c ++ d.part) a.target (left_of next).target gave_t
-    t = target-drained basis.users told net a.state mid.state (a.state.sent_c ++ d.part) a.target (left_of next).target gave_t st.plain st.target
-        (subst (λ (z : Option L). SendsTarget told a.target z (record a.state { sent_c = a.state.sent_c ++ d.part }) mid.state gave_t) (sym target)
-        (subst (λ (r : Record). SendsTarget told a.target mid.target r mid.state gave_t) d.is sends_t))
+    t : DrainedTarget told counts net a.state mid.state (a.state.sent_c ++ d.part) a.target (left_of next).target gave_t
+    t = target-drained basis.users told counts net a.state mid.state (a.state.sent_c ++ d.part) a.target (left_of next).target gave_t st.plain st.target
+        (subst (λ (z : Option L). SendsTarget told counts a.target z (record a.state { sent_c = a.state.sent_c ++ d.part }) mid.state gave_t) (sym target)
+        (subst (λ (r : Record). SendsTarget told counts a.target mid.target r mid.state gave_t) d.is sends_t))
 
 both-drains : {L : Type 0} {basis : Basis} (told : L → Told) (counts : L → Counts) (net : NetTold) (a mid : Assoc L) (next : Next L) (between : Record) (cause : Cause) (gave_c gave_t : Give)
     → (k : SentBoth told counts basis net a mid next between cause gave_c gave_t) → Drains basis a.state cause k.c.part k.c.rest k.t.part k.t.rest
@@ -316,9 +353,10 @@ both-drains told counts net a mid next between cause gave_c gave_t k = record { 
 
 both-turn : {L : Type 0} {basis : Basis} (told : L → Told) (counts : L → Counts) (net : NetTold) (a mid : Assoc L) (next : Next L) (between : Record) (cause : Cause) (gave_c gave_t : Give) (fault : Option Object) (unwritten : Bool)
     → (k : SentBoth told counts basis net a mid next between cause gave_c gave_t) → (fault ≡ Some Object.Client → ⊥)
+    → FaultIs fault (failed_giving gave_c) (failed_giving gave_t) → unwritten ≡ is_write (failed_giving gave_c) || is_write (failed_giving gave_t)
     → (IsUnfailing told net a.target → (fault ≡ None) × (unwritten ≡ false))
     → DrainTurn told counts basis net a next cause k.c.part k.c.rest k.t.part k.t.rest (is_full gave_c) (is_full gave_t) fault unwritten
-both-turn told counts net a mid next between cause gave_c gave_t fault unwritten k other fine = record {
+both-turn told counts net a mid next between cause gave_c gave_t fault unwritten k other fault_is unwritten_is fine = record {
   drains = both-drains told counts net a mid next between cause gave_c gave_t k;
   client = k.c.holds';
   client_ends = k.c.ends';
@@ -330,6 +368,12 @@ both-turn told counts net a mid next between cause gave_c gave_t fault unwritten
   stuck_t = k.t.stuck;
   is_full_c = k.c.full;
   is_full_t = k.t.full;
+  failed_c = failed_giving gave_c;
+  failed_t = failed_giving gave_t;
+  tried_c = k.c.tried;
+  tried_t = k.t.tried;
+  fault_is = fault_is;
+  unwritten_is = unwritten_is;
   fails_c = λ e. absurd (other e);
   unfailing = λ f g. fine g;
 }
@@ -341,14 +385,14 @@ both-turn told counts net a mid next between cause gave_c gave_t fault unwritten
 pub target-failed : {L : Type 0} (told : L → Told) (counts : L → Counts) (stands : List Line → List StopBy → Type 0)
     (users : List User) (pubs : List Config) (generation : ℕ) (config : Config) (cap : ℕ) (h : List Line) (marks : List StopBy) (now : ℕ) (net : NetTold)
     (a mid : Assoc L) (e : Ended L) (between : Record) (cause : Cause) (gave_c gave_t : Give) → Stands told (socks users pubs) a → a.state.cause ≡ Some cause → a.state.since ≡ now
-    → SendsClient (told a.client) (told mid.client) (counts a.client) (counts mid.client) a.state between gave_c → SendsTarget told a.target mid.target between mid.state gave_t
+    → SendsClient (told a.client) (told mid.client) (counts a.client) (counts mid.client) a.state between gave_c → SendsTarget told counts a.target mid.target between mid.state gave_t
     → is_sound gave_t ≡ false → Closed stands h marks cause mid e
     → Turns told counts stands (context users pubs generation config cap h marks) now net net a (Next.Done e)
 target-failed told counts stands users pubs generation config cap h marks now net a mid e between cause gave_c gave_t st caused same sends_c sends_t unsound closed =
     let k = sent-both told counts net a mid (Next.Done e) between cause gave_c gave_t st caused closed.client closed.target sends_c sends_t in
     let u = k.t.unsound unsound in
     drain-ends told counts stands users pubs generation config cap h marks now net a mid e cause k.c.part k.c.rest k.t.part k.t.rest (is_full gave_c) (is_full gave_t) (Some Object.Target) true
-    (both-turn told counts net a mid (Next.Done e) between cause gave_c gave_t (Some Object.Target) true k (λ f. cc) (λ fine. absurd (u.2 fine)))
+    (both-turn told counts net a mid (Next.Done e) between cause gave_c gave_t (Some Object.Target) true k (λ f. cc) (sym (unsound-kind gave_t) ∙ ap not unsound) (sym (or-right _ _ (k.t.written unsound))) (λ fine. absurd (u.2 fine)))
     (u.0, u.1) k.t.is closed same (or-written (is_nothing k.c.rest && is_nothing k.t.rest) (is_quiet (Some cause)))
   where
     or-written : (a b : Bool) → a || true || b ≡ true
@@ -359,13 +403,13 @@ target-failed told counts stands users pubs generation config cap h marks now ne
 pub drain-done : {L : Type 0} (told : L → Told) (counts : L → Counts) (stands : List Line → List StopBy → Type 0)
     (users : List User) (pubs : List Config) (generation : ℕ) (config : Config) (cap : ℕ) (h : List Line) (marks : List StopBy) (now : ℕ) (net : NetTold)
     (a mid : Assoc L) (e : Ended L) (between : Record) (cause : Cause) (gave_c gave_t : Give) → Stands told (socks users pubs) a → a.state.cause ≡ Some cause → a.state.since ≡ now
-    → SendsClient (told a.client) (told mid.client) (counts a.client) (counts mid.client) a.state between gave_c → SendsTarget told a.target mid.target between mid.state gave_t
+    → SendsClient (told a.client) (told mid.client) (counts a.client) (counts mid.client) a.state between gave_c → SendsTarget told counts a.target mid.target between mid.state gave_t
     → is_sound gave_c ≡ true → is_sound gave_t ≡ true → (is_quiet (Some cause) ≡ true) ⊎ ((is_full gave_c ≡ false) × (is_full gave_t ≡ false)) → Closed stands h marks cause mid e
     → Turns told counts stands (context users pubs generation config cap h marks) now net net a (Next.Done e)
 drain-done told counts stands users pubs generation config cap h marks now net a mid e between cause gave_c gave_t st caused same sends_c sends_t sound_c sound_t over closed =
     let k = sent-both told counts net a mid (Next.Done e) between cause gave_c gave_t st caused closed.client closed.target sends_c sends_t in
     drain-ends told counts stands users pubs generation config cap h marks now net a mid e cause k.c.part k.c.rest k.t.part k.t.rest (is_full gave_c) (is_full gave_t) None false
-    (both-turn told counts net a mid (Next.Done e) between cause gave_c gave_t None false k (λ f. cc) (λ fine. (refl, refl)))
+    (both-turn told counts net a mid (Next.Done e) between cause gave_c gave_t None false k (λ f. cc) (sound-none gave_c sound_c, sound-none gave_t sound_t) (λ i. is_write (sym (sound-none gave_c sound_c) i) || is_write (sym (sound-none gave_t sound_t) i)) (λ fine. (refl, refl)))
     refl k.t.is closed same ((λ i. (k.c.nothing sound_c i && k.t.nothing sound_t i) || false || is_quiet (Some cause)) ∙ due (is_full gave_c) (is_full gave_t) (is_quiet (Some cause)) over)
   where
     due : (c t q : Bool) → (q ≡ true) ⊎ ((c ≡ false) × (t ≡ false)) → (not c && not t) || false || q ≡ true
@@ -381,13 +425,13 @@ drain-done told counts stands users pubs generation config cap h marks now net a
 pub drain-rests : {L : Type 0} (told : L → Told) (counts : L → Counts) (stands : List Line → List StopBy → Type 0)
     (users : List User) (pubs : List Config) (generation : ℕ) (config : Config) (cap : ℕ) (h : List Line) (marks : List StopBy) (now : ℕ) (net : NetTold)
     (a mid : Assoc L) (between : Record) (cause : Cause) (gave_c gave_t : Give) → Stands told (socks users pubs) a → a.state.cause ≡ Some cause → a.state.since ≡ now
-    → SendsClient (told a.client) (told mid.client) (counts a.client) (counts mid.client) a.state between gave_c → SendsTarget told a.target mid.target between mid.state gave_t
+    → SendsClient (told a.client) (told mid.client) (counts a.client) (counts mid.client) a.state between gave_c → SendsTarget told counts a.target mid.target between mid.state gave_t
     → is_sound gave_c ≡ true → is_sound gave_t ≡ true → is_quiet (Some cause) ≡ false → is_full gave_c || is_full gave_t ≡ true → stands h marks
     → Turns told counts stands (context users pubs generation config cap h marks) now net net a (Next.Wait mid)
 drain-rests told counts stands users pubs generation config cap h marks now net a mid between cause gave_c gave_t st caused same sends_c sends_t sound_c sound_t loud full desked =
     let k = sent-both told counts net a mid (Next.Wait mid) between cause gave_c gave_t st caused refl refl sends_c sends_t in
     drain-turns told counts stands users pubs generation config cap h marks now net a (Next.Wait mid) cause k.c.part k.c.rest k.t.part k.t.rest (is_full gave_c) (is_full gave_t) None false Outer.Nothing
-    a.state.at_close a.state.done h marks (both-turn told counts net a mid (Next.Wait mid) between cause gave_c gave_t None false k (λ f. cc) (λ fine. (refl, refl))) tt
+    a.state.at_close a.state.done h marks (both-turn told counts net a mid (Next.Wait mid) between cause gave_c gave_t None false k (λ f. cc) (sound-none gave_c sound_c, sound-none gave_t sound_t) (λ i. is_write (sym (sound-none gave_c sound_c) i) || is_write (sym (sound-none gave_t sound_t) i)) (λ fine. (refl, refl))) tt
     (λ worker. drain-waits users pubs generation config cap h marks worker a.state.number now a.state cause k.c.part k.c.rest k.t.part k.t.rest (is_full gave_c) (is_full gave_t)
     (both-drains told counts net a mid (Next.Wait mid) between cause gave_c gave_t k) same
     ((λ i. (k.c.nothing sound_c i && k.t.nothing sound_t i) || false || loud i) ∙ undue (is_full gave_c) (is_full gave_t) full)
@@ -407,15 +451,8 @@ drain-rests told counts stands users pubs generation config cap h marks now net 
 pub client-tcp : (users : List User) (old mid : Record) (told told' : Told) (counts counts' : Counts) (give : Give) → IsPlainRecord users old → SendsClient told told' counts counts' old mid give → is_udp mid ≡ false
 client-tcp users old mid told told' counts counts' give plain sends = ap is_udp sends.is ∙ plain-tcp users old plain
 
-pub target-tcp : {L : Type 0} (told : L → Told) (target target' : Option L) (between new : Record) (give : Give) → SendsTarget told target target' between new give → is_udp between ≡ false → is_udp new ≡ false
-target-tcp told None None between new give sends h = ap is_udp sends.0 ∙ h
-target-tcp told None (Some link') between new give sends h = absurd sends
-target-tcp told (Some link) None between new give sends h = absurd sends
-target-tcp told (Some link) (Some link') between new give sends h = ap is_udp sends.is ∙ h
-
-pub or-left : (a b : Bool) → a ≡ true → a || b ≡ true
-or-left a b h = ap (λ z. z || b) h
-
-pub or-right : (a b : Bool) → b ≡ true → a || b ≡ true
-or-right true b h = refl
-or-right false b h = h
+pub target-tcp : {L : Type 0} (told : L → Told) (counts : L → Counts) (target target' : Option L) (between new : Record) (give : Give) → SendsTarget told counts target target' between new give → is_udp between ≡ false → is_udp new ≡ false
+target-tcp told counts None None between new give sends h = ap is_udp sends.0 ∙ h
+target-tcp told counts None (Some link') between new give sends h = absurd sends
+target-tcp told counts (Some link) None between new give sends h = absurd sends
+target-tcp told counts (Some link) (Some link') between new give sends h = ap is_udp sends.is ∙ h

@@ -5,6 +5,8 @@ use Rattle.std.proofs.Math.Seq.{drop-append_seam}
 use Rattle.conf_model.specs.declared.config.Config.{Config}
 use Rattle.conf_model.specs.declared.user.User.{User}
 use Rattle.net_ends.specs.Counts.{Counts, Rose}
+use Rattle.net_ends.specs.Faults.{Tried}
+use Rattle.net_ends.specs.declared.kinds.Kind.{Kind}
 use Rattle.net_ends.specs.Nets.{NetTold}
 use Rattle.net_ends.specs.Told.{Told}
 use Rattle.socks_machine.specs.declared.cause.Cause.{Cause}
@@ -30,10 +32,11 @@ use Rattle.assoc_core.specs.declared.assoc.Assoc.{Assoc}
 use Rattle.assoc_core.specs.declared.assoc.Next.{Next}
 use Rattle.assoc_core.specs.Plain.{IsPlainRecord, owed_c, owed_t}
 use Rattle.assoc_core.specs.Stands.{GoesDirect, Holds, HoldsTarget, EndsBehind, GivesFirst}
-use Rattle.assoc_core.specs.Turns.{Acts, event_of, context, links, Turns, GoesOn, left_of, mark_of, StopsReading, IsFull, IsThereAnd, IsUnfailing, TakesNothing, SameOutside, SameTarget}
+use Rattle.assoc_core.specs.Turns.{Acts, event_of, context, links, Turns, GoesOn, left_of, mark_of, StopsReading, IsFull, IsThereAnd, IsUnfailing, TakesNothing, SameOutside, SameTarget, FaultIs, TriedTarget, is_write}
 use Rattle.assoc_core.proofs.LinksHeld.{short}
 use Rattle.assoc_core.proofs.PlainRecords.{decided-forms, closing-phase, plain-owes-client, plain-owes-target}
 use Rattle.assoc_core.proofs.Rests.{rests-with}
+use Rattle.assoc_core.proofs.Tryings.{target-tried-as, tried-as}
 use Rattle.assoc_core.proofs.RelayCloses.{closes-with}
 use Rattle.assoc_core.proofs.RelayEnds.{idle-c, idle-t, both, drop-sent, something}
 use Rattle.assoc_core.proofs.RelayTurns.{IsDesk, desk-dials, desk-lookups, desk-plan, desk-outer}
@@ -219,6 +222,12 @@ pub record DrainTurn {L : Type 0} (told : L → Told) (counts : L → Counts) (b
   pub stuck_t : TakesNothing told net a.target → part_t ≡ []
   pub is_full_c : full_c ≡ true → (0 < length rest_c) × IsFull (told (left_of next).client) × Rose (counts a.client).idle_writes (counts (left_of next).client).idle_writes
   pub is_full_t : full_t ≡ true → (0 < length rest_t) × IsThereAnd (left_of next).target (λ link. IsFull (told link))
+  pub failed_c : Option Kind
+  pub failed_t : Option Kind
+  pub tried_c : Tried (counts a.client) (counts (left_of next).client) (Unit {0}) ((part_c ≡ []) × (full_c ≡ false)) (Unit {0}) failed_c
+  pub tried_t : TriedTarget counts net a.target (left_of next).target (Unit {0}) ((part_t ≡ []) × (full_t ≡ false)) (Unit {0}) failed_t
+  pub fault_is : FaultIs fault failed_c failed_t
+  pub unwritten_is : unwritten ≡ is_write failed_c || is_write failed_t
   pub fails_c : fault ≡ Some Object.Client → Rose (counts a.client).faults (counts (left_of next).client).faults
   pub unfailing : (told a.client).unfailing ≡ true → IsUnfailing told net a.target → (fault ≡ None) × (unwritten ≡ false)
 
@@ -272,6 +281,12 @@ drain-turns {L} told counts stands users pubs generation config cap h marks now 
   full_t = λ e. let f = k.is_full_t e in (f.1, short _ rest_t _ k.drains.owes_t f.0);
   room_c = λ e. ap (λ (z : List ℕ). length z) (k.stuck_c e);
   room_t = λ e. ap (λ (z : List ℕ). length z) (k.stuck_t e);
+  failed_c = k.failed_c;
+  failed_t = k.failed_t;
+  tried_c = tried-as k.tried_c (λ x. (refl, refl, refl)) (λ x. (ap (λ (z : List ℕ). length z) x.0, x.1)) (λ x. refl);
+  tried_t = target-tried-as counts net a.target (left_of next).target k.failed_t k.tried_t (λ x. (refl, refl, refl)) (λ x. (ap (λ (z : List ℕ). length z) x.0, x.1)) (λ x. refl);
+  fault_is = k.fault_is;
+  unwritten_is = k.unwritten_is;
   fails_c = k.fails_c;
   unfailing = k.unfailing;
 }

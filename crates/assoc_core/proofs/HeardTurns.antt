@@ -7,6 +7,8 @@ use Rattle.conf_model.specs.declared.protocol.Version.{Version}
 use Rattle.conf_model.specs.declared.user.User.{User}
 use Rattle.conf_model.specs.Handshake.{Split, split, version_of}
 use Rattle.net_ends.specs.Counts.{Counts}
+use Rattle.net_ends.specs.Faults.{Tried}
+use Rattle.net_ends.specs.declared.kinds.Kind.{Kind}
 use Rattle.net_ends.specs.Nets.{NetTold}
 use Rattle.net_ends.specs.Told.{Told, more}
 use Rattle.socks_machine.specs.declared.cause.Cause.{Cause}
@@ -29,7 +31,7 @@ use Rattle.assoc_core.specs.declared.assoc.Ended.{Ended}
 use Rattle.assoc_core.specs.declared.assoc.Next.{Next}
 use Rattle.assoc_core.specs.declared.hear.Heard.{Heard}
 use Rattle.assoc_core.specs.Closing.{Closed}
-use Rattle.assoc_core.specs.Hearing.{HasHeard, HeardAs}
+use Rattle.assoc_core.specs.Hearing.{HasHeard, HeardAs, Hears, failed_hearing, is_end, is_idle}
 use Rattle.assoc_core.specs.Plain.{IsPlainRecord, HasDecided, Talking, split_in, opening_owed, owed_c, refusal_owed, refused_at, is_login_failed, is_failed_split}
 use Rattle.assoc_core.specs.Stands.{Stands, TellsServed, Holds, GivesFirst}
 use Rattle.assoc_core.specs.Turns.{Turns, StopsReading, context}
@@ -39,6 +41,7 @@ use Rattle.assoc_core.proofs.Sendings.{more-nil}
 use Rattle.assoc_core.proofs.Talking.{Hearing, basis_of, context_of, before, heard, gone, answered, split_heard, has-answered, takes-open, takes-end, settled-more, heard-nothing, phase-more}
 use Rattle.assoc_core.proofs.TalkTurns.{heard_told, with_state}
 use Rattle.assoc_core.proofs.TalkCloses.{turns-closed, caused}
+use Rattle.assoc_core.proofs.Tryings.{added-none, tried-as}
 
 -- ---- from what was heard
 
@@ -139,6 +142,11 @@ turns-before told counts stands users pubs generation config most h marks now ne
 pub told-heard : (old new : Told) (x : List ℕ) (ends : Bool) → new ≡ record old { given = more old.given x; ended = ends || old.ended } → new ≡ heard_told old x [] ends
 told-heard old new x ends is = is ∙ (λ i. record old { given = more old.given x; taken = sym (more-nil old.taken) i; ended = ends || old.ended })
 
+-- where reads are due to fail nothing was heard
+pub heard-tried : (old new : Told) (counts counts' : Counts) (before after : List ℕ) (heard : Heard) → (h : Hears old new counts counts' before after heard)
+    → Tried counts counts' ((h.bytes ≡ []) × (is_end heard ≡ false) × (is_idle heard ≡ false)) (Unit {0}) (Unit {0}) (failed_hearing heard)
+heard-tried old new counts counts' was now how h = tried-as h.tried (λ x. (added-none was now h.bytes h.after' x.0, x.1, x.2)) (λ x. tt) (λ x. tt)
+
 -- ---- what is owed
 
 -- all that is owed to a client that has no grant, behind what was heard of it
@@ -218,6 +226,10 @@ hangs-up {L = L} told counts stands users pubs generation config most h marks no
       at_end = λ e1. (k.hears).ends;
       first = (k.hears).first (k.stands).client_first;
       idle_c = λ e1. absurd (cc);
+      failed = None;
+      tried = tried-as (heard-tried (told a.client) (told b.client) (counts a.client) (counts b.client) (a.state).c (b.state).c Heard.End k.hears) (λ x. x) (λ x. refl) (λ x. tt);
+      fault_is = (refl, refl);
+      unwritten_is = refl;
       fails_c = λ e1. absurd (cc);
       unfailing = λ e1. (refl, refl);
     }))
@@ -281,6 +293,10 @@ reads-fail told counts stands users pubs generation config most h marks now net 
       at_end = λ e1. absurd (cc);
       first = (k.hears).first (k.stands).client_first;
       idle_c = λ e1. absurd (cc);
+      failed = Some Kind.Read;
+      tried = tried-as (heard-tried (told a.client) (told b.client) (counts a.client) (counts b.client) (a.state).c (b.state).c Heard.Failed k.hears) (λ x. x) (λ x. refl) (λ x. tt);
+      fault_is = refl;
+      unwritten_is = refl;
       fails_c = λ e1. (k.hears).ends.1;
       unfailing = λ e1. absurd (clash e1 (k.hears).ends.0);
     }))

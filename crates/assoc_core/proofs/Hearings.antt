@@ -1,5 +1,5 @@
 -- How reads of a client add up, and what they come to.
-use Rattle.std.proofs.Common.{◌≡◌, ◌<◌, ◌≤◌, ◌+◌, ◌-◌, ℕ, true, Option, Some, None, option_map, List, [], ◌∷◌, ◌++◌, length, take, drop, refl, ap, sym, subst, ◌∙◌, append_assoc, length-append, arith}
+use Rattle.std.proofs.Common.{◌≡◌, ◌<◌, ◌≤◌, ◌+◌, ◌-◌, ℕ, Bool, true, false, ◌||◌, Option, Some, None, option_map, List, [], ◌∷◌, ◌++◌, length, take, drop, refl, ap, sym, subst, ◌∙◌, append_assoc, length-append, arith}
 use Rattle.std.proofs.lemmas.List.{append-nil, take_all}
 use Rattle.std.proofs.Math.Seq.{drop-append_seam}
 use mathlib.Core.List.{IsPrefix}
@@ -13,6 +13,8 @@ use Rattle.handshake_core.specs.Due.{Client, method_after}
 use Rattle.handshake_core.specs.Taking.{Takes}
 use Rattle.net_ends.specs.declared.link.Reading.{Reading}
 use Rattle.net_ends.specs.Counts.{Counts, Later, Rose}
+use Rattle.net_ends.specs.Faults.{Tried, ReadTried}
+use Rattle.net_ends.specs.declared.kinds.Kind.{Kind}
 use Rattle.net_ends.specs.Told.{Told, GivesArrived, more}
 use Rattle.rule_list.specs.Rules.{numbered}
 use Rattle.socks_machine.specs.declared.record.Chosen.{Chosen}
@@ -22,11 +24,12 @@ use Rattle.socks_machine.specs.Taking.{chosen_after}
 use Rattle.socks_machine.specs.Turn.{quantum}
 use Rattle.assoc_core.specs.declared.assoc.Assoc.{Assoc}
 use Rattle.assoc_core.specs.declared.hear.Heard.{Heard}
-use Rattle.assoc_core.specs.Hearing.{Hears, HeardAs, HasHeard, chosen_as, methods_by}
+use Rattle.assoc_core.specs.Hearing.{Hears, HeardAs, HasHeard, HearingEnds, chosen_as, failed_hearing, is_end, is_idle, methods_by}
 use Rattle.assoc_core.specs.Reads.{Comes, ComesOf, Rests}
 use Rattle.assoc_core.specs.Stands.{Stands, TellsServed, GivesFirst}
 use Rattle.assoc_core.proofs.Choosing.{HasTaken, chosen-is, method-is, takes-behind}
 use Rattle.assoc_core.proofs.Sendings.{more-nil, more-more, later-on, rose-before}
+use Rattle.assoc_core.proofs.Tryings.{tried-on, tried-as}
 use Rattle.assoc_core.proofs.Carryings.{prefix-same}
 
 pub comes-none : (told : Told) (before : List ℕ) → Comes told told before before
@@ -82,28 +85,61 @@ pub fewer-bytes : (before bytes mid : List ℕ) → mid ≡ before ++ bytes → 
 fewer-bytes before bytes mid e h = let k = ap (λ (z : List ℕ). length z) e in omega (arith, h, k, length-append before bytes)
 
 pub hears-end : (first told now : Told) (counts counts' counts'' : Counts) (before mid after : List ℕ) → Comes first told before mid → length mid < quantum + length before → Later counts counts'
-    → (after ≡ mid) × (now ≡ record told { ended = true }) → GivesArrived now Reading.End → Later counts' counts'' → Hears first now counts counts'' before after Heard.End
-hears-end first told now counts counts' counts'' before mid after h few later read arrived later' = record {
+    → Tried counts counts' (mid ≡ before) (Unit {0}) (Unit {0}) None → (after ≡ mid) × (now ≡ record told { ended = true }) → GivesArrived now Reading.End → Later counts' counts'' → ReadTried counts' counts'' Reading.End
+    → Hears first now counts counts'' before after Heard.End
+hears-end first told now counts counts' counts'' before mid after h few later tried read arrived later' tried' = record {
   bytes = h.bytes;
   after' = read.0 ∙ h.after';
   few = fewer-bytes before h.bytes mid h.after' few;
   told' = read.1 ∙ ap (λ (z : Told). let u : Told = record z { ended = true } in u) h.told';
   first = λ x arrival given a b. subst (λ (z : List ℕ). IsPrefix z arrival.bytes) (sym (arrived arrival given a b).0) (prefix-same arrival.bytes);
   later = later-on counts counts' counts'' later later';
+  tried = tried-on tried tried' (λ x y. absurd y) (λ x y. tt) (λ x y. tt);
   ends = λ arrival given a b. arrived arrival given a b;
 }
 
 pub hears-nothing : (first told now : Told) (counts counts' counts'' : Counts) (before mid after : List ℕ) → Comes first told before mid → length mid < quantum + length before
-    → (GivesFirst first → GivesFirst told) → Later counts counts' → Rests told now mid after → GivesArrived now Reading.NotYet → Later counts' counts'' → Rose counts'.idle_reads counts''.idle_reads
-    → Hears first now counts counts'' before after Heard.NotYet
-hears-nothing first told now counts counts' counts'' before mid after h few firsts later read arrived later' rose = record {
+    → (GivesFirst first → GivesFirst told) → Later counts counts' → Tried counts counts' (mid ≡ before) (Unit {0}) (Unit {0}) None → Rests told now mid after → GivesArrived now Reading.NotYet
+    → Later counts' counts'' → ReadTried counts' counts'' Reading.NotYet → Rose counts'.idle_reads counts''.idle_reads → Hears first now counts counts'' before after Heard.NotYet
+hears-nothing first told now counts counts' counts'' before mid after h few firsts later tried read arrived later' tried' rose = record {
   bytes = h.bytes;
   after' = read.after' ∙ h.after';
   few = fewer-bytes before h.bytes mid h.after' few;
   told' = read.told' ∙ h.told';
   first = λ x. subst GivesFirst (sym read.told') (firsts x);
   later = later-on counts counts' counts'' later later';
+  tried = tried-on tried tried' (λ x y. absurd y) (λ x y. tt) (λ x y. tt);
   ends = (arrived, rose-before _ _ _ later.idle_reads rose);
+}
+
+pub hears-fault : (first told now : Told) (counts counts' counts'' : Counts) (before mid after : List ℕ) → Comes first told before mid → length mid < quantum + length before
+    → (GivesFirst first → GivesFirst told) → Later counts counts' → Tried counts counts' (mid ≡ before) (Unit {0}) (Unit {0}) None → Rests told now mid after × (told.unfailing ≡ false)
+    → Later counts' counts'' → ReadTried counts' counts'' Reading.Failed → Rose counts'.faults counts''.faults → Hears first now counts counts'' before after Heard.Failed
+hears-fault first told now counts counts' counts'' before mid after h few firsts later tried read later' tried' rose = record {
+  bytes = h.bytes;
+  after' = (read.0).after' ∙ h.after';
+  few = fewer-bytes before h.bytes mid h.after' few;
+  told' = (read.0).told' ∙ h.told';
+  first = λ x. subst GivesFirst (sym (read.0).told') (firsts x);
+  later = later-on counts counts' counts'' later later';
+  tried = tried-on tried tried' (λ x y. ((read.0).after' ∙ x, refl, refl)) (λ x y. tt) (λ x y. tt);
+  ends = (ap (λ (z : Told). z.unfailing) (read.0).told' ∙ read.1, rose-before _ _ _ later.faults rose);
+}
+
+-- what came is enough: nothing more is read
+pub hears-enough : (first now : Told) (counts counts' : Counts) (before after : List ℕ) (heard : Heard) → (is_end heard ≡ false) × (is_idle heard ≡ false) × (failed_hearing heard ≡ None)
+    → Comes first now before after → length after < quantum + length before → (GivesFirst first → GivesFirst now) → Later counts counts' → Tried counts counts' (after ≡ before) (Unit {0}) (Unit {0}) None
+    → HearingEnds now counts counts' heard → Hears first now counts counts' before after heard
+hears-enough first now counts counts' before after heard goes h few firsts later tried ends = record {
+  bytes = h.bytes;
+  after' = h.after';
+  few = fewer-bytes before h.bytes after h.after' few;
+  told' = h.told' ∙ ap (λ (b : Bool). let u : Told = record first { given = more first.given h.bytes; ended = b || first.ended } in u) (sym goes.0);
+  first = firsts;
+  later = later;
+  tried = subst (λ (kind : Option Kind). Tried counts counts' ((after ≡ before) × (is_end heard ≡ false) × (is_idle heard ≡ false)) (Unit {0}) (Unit {0}) kind) (sym goes.2)
+      (tried-as tried (λ x. (x, goes.0, goes.1)) (λ x. tt) (λ x. tt));
+  ends = ends;
 }
 
 -- what was heard, as the code has it

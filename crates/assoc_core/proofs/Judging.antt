@@ -27,6 +27,7 @@ use Rattle.assoc_core.specs.Plain.{HasDecided, LookedUp, Sought, behind_lookup, 
 use Rattle.assoc_core.specs.Stands.{Stands, TellsServed}
 use Rattle.assoc_core.proofs.Choosing.{chosen-still}
 use Rattle.assoc_core.proofs.Sendings.{more-nil}
+use Rattle.assoc_core.proofs.Tryings.{tried-none}
 
 -- a whole prelude without an answer to a greeting is one of SOCKS 4, which is the same by any method
 any-method : (users : List User) (c : List ℕ) (q : Request) (n method : ℕ) → split users None c ≡ Split.Whole q n → split users (Some method) c ≡ Split.Whole q n
@@ -124,6 +125,7 @@ asked-again told counts users pubs generation config a g rule l result request s
     told' = λ i. let t = told a.client in record t { given = sym (more-nil t.given) i };
     first = λ x. x;
     later = record { faults = omega arith; idle_reads = omega arith; idle_writes = omega arith };
+    tried = tried-none (counts a.client) (refl, refl, refl) tt tt;
     ends = tt;
   };
   quiet = λ e. refl;

@@ -16,12 +16,14 @@ pub mod Moments
 pub mod Lateness
 pub mod Movements
 pub mod Dating
+pub mod PassKinds
 pub mod PassLaws
 pub mod Passing
 pub mod Inputs
 pub mod Payload
 pub mod Choosing
 pub mod Rests
+pub mod Tryings
 pub mod TurnsAway
 pub mod PlainRecords
 pub mod ReachEnds

@@ -3,14 +3,17 @@ use Rattle.std.proofs.Common.{◌≡◌, ◌+◌, ◌-◌, ◌<◌, ◌≤◌, �
 use Rattle.std.proofs.lemmas.List.{append-nil, drop-drop}
 use Rattle.std.proofs.Math.Seq.{drop-append_seam}
 use Rattle.net_ends.specs.Counts.{Counts, Later}
+use Rattle.net_ends.specs.Faults.{Tried}
+use Rattle.net_ends.specs.declared.kinds.Kind.{Kind}
 use Rattle.net_ends.specs.Told.{Told, more}
 use Rattle.socks_machine.specs.Taking.{pipe_size}
 use Rattle.assoc_core.specs.declared.carry.Give.{Give}
 use Rattle.assoc_core.specs.declared.carry.Take.{Take}
 use Rattle.assoc_core.specs.declared.send.Sent.{Sent}
-use Rattle.assoc_core.specs.Carrying.{GivesPart, GiveEnds, SentOn, RoomEnds, MakesRoom, StopEnds, TakesOn, StaysSame, GivesRest, IsHeldBy, Carries, owed_of, waiting_of, is_read, is_held, has_ended}
-use Rattle.assoc_core.specs.Sending.{Sends, SendEnds}
+use Rattle.assoc_core.specs.Carrying.{GivesPart, GiveEnds, SentOn, RoomEnds, MakesRoom, StopEnds, TakesOn, StaysSame, GivesRest, IsHeldBy, Carries, owed_of, waiting_of, is_read, is_held, is_full, is_full_stop, has_ended, failed_giving, failed_stop}
+use Rattle.assoc_core.specs.Sending.{Sends, SendEnds, is_full as was_full, failed_sending}
 use Rattle.assoc_core.proofs.Sendings.{more-nil, more-more, later-same, later-on, rose-before}
+use Rattle.assoc_core.proofs.Tryings.{tried-none, tried-on, tried-as}
 
 -- ---- lists
 
@@ -107,6 +110,7 @@ pieces-sent old mid new counts counts' counts'' before between after first secon
   told' = k.told' ∙ (ap (λ (z : Told). let u : Told = record z { taken = more z.taken k.bytes } in u) h.told' ∙ (λ i. record old { taken = more-more old.taken h.bytes k.bytes i }));
   stuck = λ e. (λ i. h.stuck e i ++ k.stuck (ap (λ (z : Told). z.room) h.told' ∙ e) i);
   later = later-on counts counts' counts'' h.later k.later;
+  tried = tried-on h.tried k.tried (λ x y. y) (λ x y. (y.0 ∙ x.0, y.1)) (λ x y. y);
   ends = ends-before outcome k.ends;
 }
   where
@@ -129,6 +133,7 @@ piece-stopped old new counts counts' before after first second owed outcome e st
   told' = k.told';
   stuck = k.stuck;
   later = k.later;
+  tried = k.tried;
   ends = ends-more outcome stopped k.ends;
 }
   where
@@ -158,28 +163,51 @@ pub many-wait : (front : List ℕ) (skip : ℕ) (text : List ℕ) (w n sent : �
 many-wait front skip text w n sent e k h = subst (λ z. pipe_size ≤ z) (e ∙ ap (waiting_of front skip text) k) h
 
 pub room-was : (told : Told) (counts : Counts) (front : List ℕ) (skip : ℕ) (text sent : List ℕ) → waiting_of front skip text (length sent) < pipe_size → MakesRoom told told counts counts front skip text sent sent None
-room-was told counts front skip text sent h = record { rest = drop (length sent) (owed_of front skip text); sends = sent-none told counts sent _; why = h }
+room-was told counts front skip text sent h = record { rest = drop (length sent) (owed_of front skip text); sends = sent-none told counts sent _; tried = tried-none counts tt (refl, refl) tt; why = h }
 
 pub room-failed : (old new : Told) (counts counts' : Counts) (front : List ℕ) (skip : ℕ) (text before after : List ℕ)
     → Sends old new counts counts' before after (drop (length before) (owed_of front skip text)) Sent.Failed → MakesRoom old new counts counts' front skip text before after (Some Give.Unwritten)
-room-failed old new counts counts' front skip text before after k = record { rest = k.rest; sends = sent-by _ _ _ _ _ _ _ _ k; why = k.ends }
+room-failed old new counts counts' front skip text before after k = record { rest = k.rest; sends = sent-by _ _ _ _ _ _ _ _ k; tried = tried-as k.tried (λ x. x) (λ x. (x.0, refl)) (λ x. x); why = k.ends }
+
+-- the kind of a call that didn't fail
+sound-sending : (outcome : Sent) → (outcome ≡ Sent.Failed → ⊥) → failed_sending outcome ≡ None
+sound-sending Sent.All h = refl
+sound-sending Sent.Full h = refl
+sound-sending Sent.Failed h = absurd (h refl)
+
+-- a sending of which no call failed, behind which the sending goes on
+tried-sound : {counts counts' : Counts} {before after : List ℕ} {full : Bool} {failed : Option Kind} → failed ≡ None → Tried counts counts' (Unit {0}) ((after ≡ before) × (full ≡ false)) (Unit {0}) failed
+    → Tried counts counts' (Unit {0}) ((after ≡ before) × (false ≡ false)) (Unit {0}) None
+tried-sound {counts = counts} {counts' = counts'} {before = before} {after = after} {full = full} none t =
+    tried-as (subst (λ (z : Option Kind). Tried counts counts' (Unit {0}) ((after ≡ before) × (full ≡ false)) (Unit {0}) z) none t) (λ x. x) (λ x. (x.0, refl)) (λ x. x)
 
 pub room-made : (old new : Told) (counts counts' : Counts) (front : List ℕ) (skip : ℕ) (text before after : List ℕ) (outcome : Sent)
-    → Sends old new counts counts' before after (drop (length before) (owed_of front skip text)) outcome → waiting_of front skip text (length after) < pipe_size
+    → Sends old new counts counts' before after (drop (length before) (owed_of front skip text)) outcome → (outcome ≡ Sent.Failed → ⊥) → waiting_of front skip text (length after) < pipe_size
     → MakesRoom old new counts counts' front skip text before after None
-room-made old new counts counts' front skip text before after outcome k h = record { rest = k.rest; sends = sent-by _ _ _ _ _ _ _ _ k; why = h }
+room-made old new counts counts' front skip text before after outcome k sound h = record {
+  rest = k.rest;
+  sends = sent-by _ _ _ _ _ _ _ _ k;
+  tried = tried-sound (sound-sending outcome sound) k.tried;
+  why = h;
+}
 
 -- as many wait still
 pub room-full : (old new : Told) (counts counts' : Counts) (front : List ℕ) (skip : ℕ) (text before after : List ℕ) (outcome : Sent)
     → Sends old new counts counts' before after (drop (length before) (owed_of front skip text)) outcome → (outcome ≡ Sent.Failed → ⊥) → pipe_size ≤ waiting_of front skip text (length after)
     → MakesRoom old new counts counts' front skip text before after (Some Give.Full)
-room-full old new counts counts' front skip text before after outcome k sound h = record { rest = k.rest; sends = sent; why = by outcome sound k.ends }
+room-full old new counts counts' front skip text before after outcome k sound h = record { rest = k.rest; sends = sent; tried = full-tried outcome sound k.ends k.tried; why = by outcome sound k.ends }
   where
     sent : SentOn old new counts counts' before after (drop (length before) (owed_of front skip text)) k.rest
     sent = sent-by _ _ _ _ _ _ _ _ k
 
     none-left : k.rest ≡ [] → waiting_of front skip text (length after) ≤ 0
     none-left none = none-waits front skip text (length after) (left-behind _ _ _ _ _ _ _ _ sent ∙ none)
+
+    full-tried : (outcome : Sent) → (outcome ≡ Sent.Failed → ⊥) → SendEnds new counts counts' k.rest outcome → Tried counts counts' (Unit {0}) ((after ≡ before) × (was_full outcome ≡ false)) (Unit {0}) (failed_sending outcome)
+        → Tried counts counts' (Unit {0}) ((after ≡ before) × (true ≡ false)) (Unit {0}) None
+    full-tried Sent.All f d t = let none : waiting_of front skip text (length after) ≤ 0 = none-left d in absurd (omega (arith, none, h))
+    full-tried Sent.Full f d t = t
+    full-tried Sent.Failed f d t = absurd (f refl)
 
     by : (outcome : Sent) → (outcome ≡ Sent.Failed → ⊥) → SendEnds new counts counts' k.rest outcome → RoomEnds new counts counts' k.rest (waiting_of front skip text (length after)) (Some Give.Full)
     by Sent.All f d = let none : waiting_of front skip text (length after) ≤ 0 = none-left d in absurd (omega (arith, none, h))
@@ -197,9 +225,10 @@ room-as old new counts counts' front skip text text' before after stopped e h = 
 pub record SentSoFar (old new : Told) (counts counts' : Counts) (before after owed : List ℕ) : Type 0 where
   pub rest : List ℕ
   pub sends : SentOn old new counts counts' before after (drop (length before) owed) rest
+  pub tried : Tried counts counts' (Unit {0}) (after ≡ before) (Unit {0}) None
 
 pub sent-starts : (told : Told) (counts : Counts) (sent owed : List ℕ) → SentSoFar told told counts counts sent sent owed
-sent-starts told counts sent owed = record { rest = drop (length sent) owed; sends = sent-none told counts sent (drop (length sent) owed) }
+sent-starts told counts sent owed = record { rest = drop (length sent) owed; sends = sent-none told counts sent (drop (length sent) owed); tried = tried-none counts tt refl tt }
 
 -- with what was sent before a read
 pub room-on : (old mid new : Told) (counts counts' counts'' : Counts) (front : List ℕ) (skip : ℕ) (text before between after : List ℕ) (stopped : Option Give)
@@ -209,10 +238,24 @@ room-on old mid new counts counts' counts'' front skip text before between after
     sent-then old mid new counts counts' counts'' before between after _ h.rest m.rest h.sends
     (subst (λ (z : List ℕ). SentOn mid new counts' counts'' between after z m.rest) (left-behind _ _ _ _ _ _ _ _ h.sends) m.sends)
 
+pub tried-room : {old mid new : Told} {counts counts' counts'' : Counts} {front : List ℕ} {skip : ℕ} {text before between after owed : List ℕ} {stopped : Option Give}
+    → SentSoFar old mid counts counts' before between owed → MakesRoom mid new counts' counts'' front skip text between after stopped
+    → Tried counts counts'' (Unit {0}) ((after ≡ before) × (is_full_stop stopped ≡ false)) (Unit {0}) (failed_stop stopped)
+tried-room h m = tried-on h.tried m.tried (λ x y. y) (λ x y. (y.0 ∙ x, y.1)) (λ x y. y)
+
+-- the same, where the sending has stopped, or hasn't
+pub tried-stopped : {counts counts' : Counts} {before after : List ℕ} {stopped stopped' : Option Give} → stopped ≡ stopped'
+    → Tried counts counts' (Unit {0}) ((after ≡ before) × (is_full_stop stopped ≡ false)) (Unit {0}) (failed_stop stopped)
+    → Tried counts counts' (Unit {0}) ((after ≡ before) × (is_full_stop stopped' ≡ false)) (Unit {0}) (failed_stop stopped')
+tried-stopped {counts = counts} {counts' = counts'} {before = before} {after = after} e t =
+    subst (λ (z : Option Give). Tried counts counts' (Unit {0}) ((after ≡ before) × (is_full_stop z ≡ false)) (Unit {0}) (failed_stop z)) e t
+
 -- and with what was read then
 pub read-on : (old new : Told) (counts counts' : Counts) (front : List ℕ) (skip : ℕ) (text text' before after rest x : List ℕ)
-    → SentOn old new counts counts' before after (drop (length before) (owed_of front skip text)) rest → text' ≡ text ++ x → SentSoFar old new counts counts' before after (owed_of front skip text')
-read-on old new counts counts' front skip text text' before after rest x h is = record {
+    → SentOn old new counts counts' before after (drop (length before) (owed_of front skip text)) rest → Tried counts counts' (Unit {0}) ((after ≡ before) × (false ≡ false)) (Unit {0}) None → text' ≡ text ++ x
+    → SentSoFar old new counts counts' before after (owed_of front skip text')
+read-on old new counts counts' front skip text text' before after rest x h t is = record {
+  tried = tried-as t (λ x. x) (λ x. x.0) (λ x. x);
   rest = rest ++ y;
   sends = subst (λ (z : List ℕ). SentOn old new counts counts' before after z (rest ++ y)) grown (sent-grows old new counts counts' before after _ rest y h);
 }
@@ -266,9 +309,10 @@ give-ends-before told a b c rest gives ends shut Give.Unshut l h = (h.0, h.1, h.
 
 -- what was left was given on
 pub give-on : (old mid new : Told) (counts counts' counts'' : Counts) (before between after pending left : List ℕ) (gives ends was shut : Bool) (give : Give)
-    → SentOn old mid counts counts' before between pending left → GivesPart mid new counts' counts'' between after left gives ends was shut give
+    → SentOn old mid counts counts' before between pending left → Tried counts counts' (Unit {0}) ((between ≡ before) × (false ≡ false)) (Unit {0}) None → GivesPart mid new counts' counts'' between after left gives ends was shut give
     → GivesPart old new counts counts'' before after pending gives ends was shut give
-give-on old mid new counts counts' counts'' before between after pending left gives ends was shut give h k = record {
+give-on old mid new counts counts' counts'' before between after pending left gives ends was shut give h t k = record {
+  tried = tried-on t k.tried (λ x y. y) (λ x y. (y.0 ∙ x.0, y.1)) (λ x y. y);
   part = h.part ++ k.part;
   rest = k.rest;
   shuts = k.shuts;
@@ -285,9 +329,11 @@ give-on old mid new counts counts' counts'' before between after pending left gi
 }
 
 -- the sink isn't shut
-unshut-given : (old new : Told) (counts counts' : Counts) (before after pending rest : List ℕ) (gives ends was : Bool) (give : Give) → SentOn old new counts counts' before after pending rest
+pub unshut-given : (old new : Told) (counts counts' : Counts) (before after pending rest : List ℕ) (gives ends was : Bool) (give : Give) → SentOn old new counts counts' before after pending rest
+    → Tried counts counts' (Unit {0}) ((after ≡ before) × (is_full give ≡ false)) (Unit {0}) (failed_giving give)
     → GiveEnds new counts counts' rest gives ends was give → GivesPart old new counts counts' before after pending gives ends was was give
-unshut-given old new counts counts' before after pending rest gives ends was give h why = record {
+unshut-given old new counts counts' before after pending rest gives ends was give h t why = record {
+  tried = tried-as t (λ x. x) (λ x. x) (λ x. refl);
   part = h.part;
   rest = rest;
   shuts = false;
@@ -329,7 +375,7 @@ pub rest-given : (source source' : Told) (counts counts' : Counts) (sink mid new
     → Carries source source' counts counts' sink new sunk sunk'' front skip before after sent final reads true was ended shut shut' take give
 rest-given source source' counts counts' sink mid new sunk sunk' sunk'' front skip before after sent between final reads was ended shut shut' take None give k g = record {
   takes = k.takes;
-  gives' = give-on sink mid new sunk sunk' sunk'' sent between final _ k.rest true (has_ended take) shut shut' give k.sends
+  gives' = give-on sink mid new sunk sunk' sunk'' sent between final _ k.rest true (has_ended take) shut shut' give k.sends k.tried
       (subst (λ (z : List ℕ). GivesPart mid new sunk' sunk'' between final z true (has_ended take) shut shut' give) (left-behind _ _ _ _ _ _ _ _ k.sends) g);
   room = λ e. waits-less front skip after (length between) (length final) (omega (arith, ap (λ (z : List ℕ). length z) g.after', length-append between g.part)) (k.room e);
   held = λ e. clash (is_held take) e k.why;
@@ -341,7 +387,7 @@ rest-given source source' counts counts' sink mid new sunk sunk' sunk'' front sk
 rest-given source source' counts counts' sink mid new sunk sunk' sunk'' front skip before after sent between final reads was ended shut shut' take (Some stopped) give k g = record {
   takes = k.takes;
   gives' = given-same sink mid new sunk sunk' sunk'' sent between final _ true (has_ended take) shut shut' stopped give
-      (unshut-given sink mid sunk sunk' sent between _ k.rest true (has_ended take) shut stopped k.sends by.0) g.0 g.1;
+      (unshut-given sink mid sunk sunk' sent between _ k.rest true (has_ended take) shut stopped k.sends k.tried by.0) g.0 g.1;
   room = λ e. subst (λ (z : List ℕ). waiting_of front skip after (length z) < pipe_size) (sym g.0.after') (k.room e);
   held = λ e. subst (λ (z : Give). IsHeldBy (waiting_of front skip after (length final)) z) (sym g.1)
       (subst (λ (z : List ℕ). IsHeldBy (waiting_of front skip after (length z)) stopped) (sym g.0.after') by.1);
@@ -350,6 +396,10 @@ rest-given source source' counts counts' sink mid new sunk sunk' sunk'' front sk
     by : GiveEnds mid sunk sunk' k.rest true (has_ended take) shut stopped × IsHeldBy (waiting_of front skip after (length between)) stopped
     by = stopped-ends mid sunk sunk' k.rest _ (has_ended take) shut stopped k.why.1
 
+unstopped : (told : Told) (counts counts' : Counts) (rest : List ℕ) (waiting : ℕ) (take : Take) (stopped : Option Give) → take ≡ Take.Failed → StopEnds told counts counts' rest waiting take stopped → stopped ≡ None
+unstopped told counts counts' rest waiting take None is why = refl
+unstopped told counts counts' rest waiting take (Some give) is why = let f : false ≡ true = ap is_held (sym is) ∙ why.0 in absurd (cc)
+
 -- a read has failed, and nothing more was done
 pub read-failed : (source source' : Told) (counts counts' : Counts) (sink sink' : Told) (sunk sunk' : Counts) (front : List ℕ) (skip : ℕ) (before after sent sent' : List ℕ)
     (reads was ended shut : Bool) (take : Take) (stopped : Option Give) → take ≡ Take.Failed
@@ -357,7 +407,7 @@ pub read-failed : (source source' : Told) (counts counts' : Counts) (sink sink' 
     → Carries source source' counts counts' sink sink' sunk sunk' front skip before after sent sent' reads (is_read take) was ended shut shut take Give.Held
 read-failed source source' counts counts' sink sink' sunk sunk' front skip before after sent sent' reads was ended shut take stopped is k = record {
   takes = k.takes;
-  gives' = unshut-given sink sink' sunk sunk' sent sent' _ k.rest (is_read take) (has_ended take) shut Give.Held k.sends (ap is_read is);
+  gives' = unshut-given sink sink' sunk sunk' sent sent' _ k.rest (is_read take) (has_ended take) shut Give.Held k.sends (tried-stopped (unstopped sink' sunk sunk' k.rest _ take stopped is k.why) k.tried) (ap is_read is);
   room = k.room;
   held = λ e. let f : false ≡ true = ap is_held (sym is) ∙ e in absurd (cc);
 }
@@ -400,7 +450,7 @@ pieces-given old mid new counts counts' counts'' before between after first seco
     (give-on old mid new counts counts' counts'' before between after (drop (length before) owed) second true ends was shut give
     (subst (λ (z : List ℕ). SentOn old mid counts counts' before between z second) cut
     (subst (λ (z : List ℕ). SentOn old mid counts counts' before between (first ++ second) (z ++ second)) h.ends
-    (sent-grows old mid counts counts' before between first h.rest second (sent-by _ _ _ _ _ _ _ _ h)))) k)
+    (sent-grows old mid counts counts' before between first h.rest second (sent-by _ _ _ _ _ _ _ _ h)))) h.tried k)
 
 -- the first piece wasn't sent whole
 pub piece-full : (old new : Told) (counts counts' : Counts) (before after first second owed : List ℕ) (ends shut : Bool) (stopped : Option Give) → stopped ≡ None → first ++ second ≡ drop (length before) owed
@@ -408,11 +458,11 @@ pub piece-full : (old new : Told) (counts counts' : Counts) (before after first 
 piece-full old new counts counts' before after first second owed ends shut stopped is cut k =
     subst (λ (z : Option Give). GivesRest old new counts counts' before after (drop (length before) owed) ends shut shut z Give.Full) (sym is)
     (let w = piece-stopped old new counts counts' before after first second owed Sent.Full cut (λ e. cc) k in
-    unshut-given old new counts counts' before after _ w.rest true ends shut Give.Full (sent-by _ _ _ _ _ _ _ _ w) w.ends)
+    unshut-given old new counts counts' before after _ w.rest true ends shut Give.Full (sent-by _ _ _ _ _ _ _ _ w) w.tried w.ends)
 
 pub piece-failed : (old new : Told) (counts counts' : Counts) (before after first second owed : List ℕ) (ends shut : Bool) (stopped : Option Give) → stopped ≡ None → first ++ second ≡ drop (length before) owed
     → Sends old new counts counts' before after first Sent.Failed → GivesRest old new counts counts' before after (drop (length before) owed) ends shut shut stopped Give.Unwritten
 piece-failed old new counts counts' before after first second owed ends shut stopped is cut k =
     subst (λ (z : Option Give). GivesRest old new counts counts' before after (drop (length before) owed) ends shut shut z Give.Unwritten) (sym is)
     (let w = piece-stopped old new counts counts' before after first second owed Sent.Failed cut (λ e. cc) k in
-    unshut-given old new counts counts' before after _ w.rest true ends shut Give.Unwritten (sent-by _ _ _ _ _ _ _ _ w) w.ends)
+    unshut-given old new counts counts' before after _ w.rest true ends shut Give.Unwritten (sent-by _ _ _ _ _ _ _ _ w) w.tried w.ends)

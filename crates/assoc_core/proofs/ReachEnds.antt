@@ -1,10 +1,12 @@
 -- How a turn that dials ends: the target is greeted, or the client is refused.
-use Rattle.std.proofs.Common.{◌≡◌, ℕ, ◌-◌, ◌<◌, Bool, true, false, Option, Some, None, List, [], ◌∷◌, ◌++◌, length, drop, slice_set, option_map, refl, sym, ap, subst, ◌∙◌}
+use Rattle.std.proofs.Common.{◌≡◌, ℕ, ◌-◌, ◌<◌, Bool, true, false, ◌||◌, Option, Some, None, List, [], ◌∷◌, ◌++◌, length, drop, slice_set, option_map, refl, sym, ap, subst, ◌∙◌}
 use Rattle.std.specs.Prelude.{Result, IfOk, Ok, Err}
 use Rattle.addr_pattern.specs.declared.endpoint.Endpoint.{Endpoint}
 use Rattle.conf_model.specs.declared.config.Config.{Config}
 use Rattle.conf_model.specs.declared.user.User.{User}
+use Rattle.net_ends.specs.declared.kinds.Kind.{Kind}
 use Rattle.net_ends.specs.Counts.{Counts, Rose}
+use Rattle.net_ends.specs.Faults.{Tried}
 use Rattle.net_ends.specs.Nets.{DialOutcome, NetTold, Plan, SameLookups, dialled, NetCounts}
 use Rattle.net_ends.specs.Told.{Told}
 use Rattle.rule_list.specs.declared.facts.Facts.{Facts}
@@ -27,9 +29,9 @@ use Rattle.assoc_core.proofs.PlainRecords.{granted-behind, unreached-behind}
 use Rattle.connect_core.specs.declared.dial.Reached.{Reached}
 use Rattle.connect_core.specs.Reaching.{Reaches as DialReaches, cause_of}
 use Rattle.assoc_core.specs.Reaching.{HasDialled, HasGreeted, IsNewLink, SameDesk, at_of}
-use Rattle.assoc_core.specs.Sending.{Sends, SendEnds, WritesOn, is_full, is_failed, with_failure}
+use Rattle.assoc_core.specs.Sending.{Sends, SendEnds, WritesOn, failed_sending, is_full, is_failed, with_failure}
 use Rattle.assoc_core.specs.Stands.{Stands, Holds, HoldsTarget, EndsBehind, GivesFirst}
-use Rattle.assoc_core.specs.Turns.{Turns, SameOutside, SameTarget, IsUnfailing, TakesNothing, IsFull, IsThereAnd, context}
+use Rattle.assoc_core.specs.Turns.{Turns, SameOutside, SameTarget, IsUnfailing, TakesNothing, TriedTarget, FaultIs, IsFull, IsThereAnd, context, is_write}
 use Rattle.assoc_core.proofs.Answering.{all-owed, with_link}
 use Rattle.assoc_core.proofs.AskTurns.{AskEnds, ask-ends, fault_of, no-fault, has-failed}
 use Rattle.assoc_core.proofs.GrantTurns.{last-set}
@@ -38,6 +40,7 @@ use Rattle.assoc_core.proofs.ReachTurns.{judged-in, Reaches, FailedWrite, dialli
 use Rattle.assoc_core.proofs.Sendings.{more-nil}
 use Rattle.assoc_core.proofs.StandsLaws.{same-target}
 use Rattle.assoc_core.proofs.TalkTurns.{with_state}
+use Rattle.assoc_core.proofs.Tryings.{tried-none, tried-as, added-none}
 
 -- ---- from the turn with the explicit record
 
@@ -72,6 +75,16 @@ failed-as : (d : Dialling) (o : DialOutcome) (rest_c rest_t : List ℕ) (failed 
 failed-as d o rest_c rest_t true h = (refl, h refl)
 failed-as d o rest_c rest_t false h = refl
 
+client-fault-is : (outcome : Sent) → FaultIs (fault_of (is_failed outcome)) (failed_sending outcome) None
+client-fault-is Sent.All = (refl, refl)
+client-fault-is Sent.Full = (refl, refl)
+client-fault-is Sent.Failed = refl
+
+client-unwritten : (outcome : Sent) → is_failed outcome ≡ is_write (failed_sending outcome) || false
+client-unwritten Sent.All = refl
+client-unwritten Sent.Full = refl
+client-unwritten Sent.Failed = refl
+
 -- no target was reached before
 unreached-before : {L : Type 0} (told : L → Told) (basis : Basis) (net net' : NetTold) (now : ℕ) (a b : Assoc L) (o : DialOutcome) → HasDialled told basis net net' now a b o → reached_at (a.state).decisions ≡ None
 unreached-before told basis net net' now a b o k = ap reached_at k.granted' ∙ unreached-behind k.g k.rule k.sought k.g' k.facts k.verdict k.route None
@@ -104,6 +117,14 @@ refuses-turn {L = L} told counts users pubs generation config most h marks net n
       same_target = subst (λ (w : Option L). SameTarget told net a.target w) (sym k.target') (same-target told net a.target);
       fills_c = λ e. ((ends.full' e).0, (ends.full' e).1, subst (λ (l : L). Rose (counts l).idle_writes (counts w.client).idle_writes) k.client' (ends.full' e).2);
       fills_t = λ e. absurd (cc);
+      failed_c = failed_sending w.outcome;
+      failed_t = None;
+      tried_c = subst (λ (l : L). Tried (counts l) (counts w.client) (Unit {0}) ((sends'.bytes ≡ []) × (full ≡ false)) (Unit {0}) (failed_sending w.outcome)) k.client'
+          (tried-as sends'.tried (λ u. u) (λ e. (added-none d.sent w.sent sends'.bytes sends'.after' e.0, e.1)) (λ u. u));
+      tried_t = subst (λ (w : Option L). TriedTarget counts net a.target w (Unit {0}) (((z.state).sent_t ≡ []) × (false ≡ false)) (Unit {0}) None) (sym k.target')
+          (subst (λ (w : Option L). TriedTarget counts net w w (Unit {0}) (((z.state).sent_t ≡ []) × (false ≡ false)) (Unit {0}) None) (sym no-target) (refl, tt, (none-t, refl), tt));
+      fault_is = client-fault-is w.outcome;
+      unwritten_is = client-unwritten w.outcome;
       fails_c = λ e. subst (λ (l : L). Rose (counts l).faults (counts w.client).faults) k.client' (ends.failed' (has-failed failed e)).2;
       unfailing = λ e1 e2. no-fault failed (λ e3. clash e1 (ends.failed' e3).1);
     }))
@@ -165,6 +186,12 @@ pub record Greets {L : Type 0} (told : L → Told) (counts : L → Counts) (b z 
   pub link' : told link ≡ told_taken (told new) (z.state).sent_t
   pub fills_c : full_c ≡ true → (0 < length rest_c) × IsFull (told z.client) × Rose (counts b.client).idle_writes (counts z.client).idle_writes
   pub fills_t : full_t ≡ true → (0 < length rest_t) × IsFull (told link)
+  pub failed_c : Option Kind
+  pub failed_t : Option Kind
+  pub tried_c : Tried (counts b.client) (counts z.client) (Unit {0}) ((y_c ≡ []) × (full_c ≡ false)) (Unit {0}) failed_c
+  pub tried_t : Tried (counts new) (counts link) (Unit {0}) (((z.state).sent_t ≡ []) × (full_t ≡ false)) (Unit {0}) failed_t
+  pub fault_is : FaultIs fault failed_c failed_t
+  pub unwritten_is : unwritten ≡ is_write failed_c || is_write failed_t
   pub fails_c : fault ≡ Some Object.Client → Rose (counts b.client).faults (counts z.client).faults
   pub unfailing : (told b.client).unfailing ≡ true → (told new).unfailing ≡ true → (fault ≡ None) × (unwritten ≡ false)
 
@@ -173,7 +200,7 @@ some-clash x e = cc
 
 pub greets-turn : {L : Type 0} (told : L → Told) (counts : L → Counts) (users : List User) (pubs : List Config) (generation : ℕ) (config : Config) (most : ℕ) (h : List Line) (marks : List StopBy)
     (net net' : NetTold) (now : ℕ) (a b z : Assoc L) (local : Endpoint) (new link : L) (y_c rest_c rest_t : List ℕ) (full_c full_t : Bool) (fault : Option Object) (unwritten : Bool)
-    → HasDialled told (socks users pubs) net net' now a b (DialOutcome.CameUp local) → IsNewLink (told new) net → Greets told counts b z new link y_c rest_c rest_t full_c full_t fault unwritten
+    → HasDialled told (socks users pubs) net net' now a b (DialOutcome.CameUp local) → IsNewLink (told new) (counts new) net → Greets told counts b z new link y_c rest_c rest_t full_c full_t fault unwritten
     → Turns told counts (SameDesk h marks) (context users pubs generation config most h marks) now net net' a (Next.Again z)
 greets-turn {L = L} told counts users pubs generation config most h marks net net' now a b z local new link y_c rest_c rest_t full_c full_t fault unwritten k v w =
     turns-dialled told counts users pubs generation config most h marks net net' now a b z o k y_c rest_c rest_t full_c full_t fault unwritten (record {
@@ -198,6 +225,13 @@ greets-turn {L = L} told counts users pubs generation config most h marks net ne
       same_target = subst (λ (t : Option L). SameTarget told net a.target t) (sym w.target') (subst (λ (t : Option L). SameTarget told net t (Some link)) (sym no-target) same-link);
       fills_c = λ e. ((w.fills_c e).0, (w.fills_c e).1, subst (λ (l : L). Rose (counts l).idle_writes (counts z.client).idle_writes) k.client' (w.fills_c e).2);
       fills_t = λ e. ((w.fills_t e).0, subst (λ (t : Option L). IsThereAnd t (λ l. IsFull (told l))) (sym w.target') (w.fills_t e).1);
+      failed_c = w.failed_c;
+      failed_t = w.failed_t;
+      tried_c = subst (λ (l : L). Tried (counts l) (counts z.client) (Unit {0}) ((y_c ≡ []) × (full_c ≡ false)) (Unit {0}) w.failed_c) k.client' w.tried_c;
+      tried_t = subst (λ (t : Option L). TriedTarget counts net a.target t (Unit {0}) (((z.state).sent_t ≡ []) × (full_t ≡ false)) (Unit {0}) w.failed_t) (sym w.target')
+          (subst (λ (t : Option L). TriedTarget counts net t (Some link) (Unit {0}) (((z.state).sent_t ≡ []) × (full_t ≡ false)) (Unit {0}) w.failed_t) (sym no-target) (counts new, v.due', w.tried_t));
+      fault_is = w.fault_is;
+      unwritten_is = w.unwritten_is;
       fails_c = λ e. subst (λ (l : L). Rose (counts l).faults (counts z.client).faults) k.client' (w.fails_c e);
       unfailing = λ e1 e2. w.unfailing (subst (λ (l : L). (told l).unfailing ≡ true) (sym k.client') e1) (new-unfailing (subst (λ (t : Option L). IsUnfailing told net t) no-target e2));
     })
@@ -246,6 +280,12 @@ greets-none {L = L} told counts b new client s last state' unsent sends last' = 
   link' = (λ i. let t : Told = told new in record t { taken = sym (more-nil t.taken) i }) ∙ (λ i. told_taken (told new) (sym unsent' i));
   fills_c = λ e. absurd (cc);
   fills_t = λ e. absurd (cc);
+  failed_c = Some Kind.Write;
+  failed_t = None;
+  tried_c = tried-as sends.tried (λ u. u) (λ e. (added-none (b.state).sent_c s.sent_c sends.bytes sends.after' e.0, refl)) (λ u. u);
+  tried_t = tried-none (counts new) tt (unsent', refl) tt;
+  fault_is = refl;
+  unwritten_is = refl;
   fails_c = λ e. (sends.ends).2;
   unfailing = λ e1 e2. absurd (clash e1 (sends.ends).1);
 }
@@ -260,12 +300,12 @@ greets-none {L = L} told counts b new client s last state' unsent sends last' = 
     clash e1 e2 = let e3 : (told client).unfailing ≡ (told b.client).unfailing = ap (λ (w : Told). w.unfailing) sends.told' in cc
 
 -- as much of the reply was written as the client took
-pub has-greeted : {L : Type 0} (told : L → Told) (counts : L → Counts) (b : Assoc L) (client : L) (s : Record) (full : Bool) (outcome : Sent)
+pub has-greeted : {L : Type 0} (told : L → Told) (counts : L → Counts) (b : Assoc L) (client : L) (s : Record) (outcome : Sent)
     → s ≡ (let r = b.state in record r { sent_c = s.sent_c })
     → Sends (told b.client) (told client) (counts b.client) (counts client) (b.state).sent_c s.sent_c (drop (length (b.state).sent_c) (owed_c b.state)) outcome
-    → ((rest : List ℕ) → SendEnds (told client) (counts b.client) (counts client) rest outcome → full ≡ true → (0 < length rest) × IsFull (told client) × Rose (counts b.client).idle_writes (counts client).idle_writes)
-    → HasGreeted told counts b (with_link b s client) full
-has-greeted told counts b client s full outcome state' sends by = record {
+    → failed_sending outcome ≡ None
+    → HasGreeted told counts b (with_link b s client) (is_full outcome)
+has-greeted told counts b client s outcome state' sends unfailed = record {
   bytes = sends.bytes;
   rest = sends.rest;
   pending' = sends.pending';
@@ -274,7 +314,8 @@ has-greeted told counts b client s full outcome state' sends by = record {
   told' = sends.told';
   stuck = sends.stuck;
   later = sends.later;
-  full' = by sends.rest sends.ends;
+  tried = subst (λ (failed : Option Kind). Tried (counts b.client) (counts client) (Unit {0}) ((s.sent_c ≡ (b.state).sent_c) × (is_full outcome ≡ false)) (Unit {0}) failed) unfailed sends.tried;
+  full' = (ask-ends (told client) (counts b.client) (counts client) sends.rest outcome sends.ends).full';
 }
 
 abbrev pub target_fault : Bool → Option Object
@@ -301,21 +342,35 @@ no-target-fault : (failed : Bool) → (failed ≡ true → ⊥) → (target_faul
 no-target-fault true h = absurd (h refl)
 no-target-fault false h = (refl, refl)
 
+target-fault-is : (outcome : Sent) → FaultIs (target_fault (is_failed outcome)) None (failed_sending outcome)
+target-fault-is Sent.All = (refl, refl)
+target-fault-is Sent.Full = (refl, refl)
+target-fault-is Sent.Failed = refl
+
+target-unwritten : (outcome : Sent) → is_failed outcome ≡ is_write (failed_sending outcome)
+target-unwritten Sent.All = refl
+target-unwritten Sent.Full = refl
+target-unwritten Sent.Failed = refl
+
 -- why the write to the target stopped
 pub record PayloadEnds (told : Told) (rest : List ℕ) (full failed : Bool) : Type 0 where
   pub full' : full ≡ true → (0 < length rest) × IsFull told
   pub failed' : failed ≡ true → (0 < length rest) × (told.unfailing ≡ false)
 
+payload-ends : (told : Told) (counts counts' : Counts) (rest : List ℕ) (outcome : Sent) → SendEnds told counts counts' rest outcome → PayloadEnds told rest (is_full outcome) (is_failed outcome)
+payload-ends told counts counts' rest Sent.All h = record { full' = λ e. absurd (cc); failed' = λ e. absurd (cc) }
+payload-ends told counts counts' rest Sent.Full h = record { full' = λ e. (h.0, h.1); failed' = λ e. absurd (cc) }
+payload-ends told counts counts' rest Sent.Failed h = record { full' = λ e. absurd (cc); failed' = λ e. (h.0, h.1) }
+
 pub sends-payload : {L : Type 0} (told : L → Told) (counts : L → Counts) (users : List User) (pubs : List Config) (generation : ℕ) (config : Config) (most : ℕ) (h : List Line) (marks : List StopBy)
-    (net net' : NetTold) (now : ℕ) (a b z : Assoc L) (local : Endpoint) (new link : L) (s : Record) (last : Option Cause) (full full_t failed : Bool) (outcome : Sent)
-    → HasDialled told (socks users pubs) net net' now a b (DialOutcome.CameUp local) → IsNewLink (told new) net → HasGreeted told counts b z full
+    (net net' : NetTold) (now : ℕ) (a b z : Assoc L) (local : Endpoint) (new link : L) (s : Record) (last : Option Cause) (full : Bool) (outcome : Sent)
+    → HasDialled told (socks users pubs) net net' now a b (DialOutcome.CameUp local) → IsNewLink (told new) (counts new) net → HasGreeted told counts b z full
     → s ≡ (let r = z.state in record r { sent_t = s.sent_t })
     → Sends (told new) (told link) (counts new) (counts link) (z.state).sent_t s.sent_t (drop (length (z.state).sent_t) (drop (prelude_of z.state) (z.state).c)) outcome
-    → ((rest : List ℕ) → SendEnds (told link) (counts new) (counts link) rest outcome → PayloadEnds (told link) rest full_t failed)
-    → last ≡ with_target_failure failed s.cause
+    → last ≡ with_target_failure (is_failed outcome) s.cause
     → Turns told counts (SameDesk h marks) (context users pubs generation config most h marks) now net net' a (Next.Again (record { state = record s { cause = last }; client = z.client; target = Some link }))
-sends-payload {L = L} told counts users pubs generation config most h marks net net' now a b z local new link s last full full_t failed outcome k v g state' sends by last' =
-    greets-turn told counts users pubs generation config most h marks net net' now a b z' local new link g.bytes g.rest sends'.rest full full_t (target_fault failed) failed k v (record {
+sends-payload {L = L} told counts users pubs generation config most h marks net net' now a b z local new link s last full outcome k v g state' sends last' =
+    greets-turn told counts users pubs generation config most h marks net net' now a b z' local new link g.bytes g.rest sends'.rest full (is_full outcome) (target_fault failed) failed k v (record {
       pending' = g.pending';
       state' = (λ i. record s { cause = (last' ∙ as-target failed s.cause) i }) ∙ (λ i. let r : Record = s-is i in record r { cause = with_object (target_fault failed) r.cause });
       all_t = ap (λ w. w ++ sends'.rest) sends'.after' ∙ sends'.pending';
@@ -327,12 +382,18 @@ sends-payload {L = L} told counts users pubs generation config most h marks net 
       link' = sends'.told' ∙ ap (told_taken (told new)) (sym sends'.after');
       fills_c = g.full';
       fills_t = ends.full';
+      failed_c = None;
+      failed_t = failed_sending outcome;
+      tried_c = tried-as g.tried (λ u. u) (λ e. (added-none (b.state).sent_c (z.state).sent_c g.bytes (ap (λ (r : Record). r.sent_c) z-is) e.0, e.1)) (λ u. u);
+      tried_t = sends'.tried;
+      fault_is = target-fault-is outcome;
+      unwritten_is = target-unwritten outcome;
       fails_c = λ e. absurd (not-client failed e);
       unfailing = λ e1 e2. no-target-fault failed (λ e3. clash e2 (ends.failed' e3).1);
     })
   where
-    d : Dialling
-    d = dialling_of told users pubs generation config most h marks net net' now a b (DialOutcome.CameUp local) k
+    failed : Bool
+    failed = is_failed outcome
 
     z' : Assoc L
     z' = record { state = record s { cause = last }; client = z.client; target = Some link }
@@ -350,8 +411,8 @@ sends-payload {L = L} told counts users pubs generation config most h marks net 
     sends' = subst (λ (r : Record). Sends (told new) (told link) (counts new) (counts link) [] s.sent_t (drop (prelude_of r) r.c) outcome) z-is
         (subst (λ (w : List ℕ). Sends (told new) (told link) (counts new) (counts link) w s.sent_t (drop (length w) (drop (prelude_of z.state) (z.state).c)) outcome) unsent sends)
 
-    ends : PayloadEnds (told link) sends'.rest full_t failed
-    ends = by sends'.rest sends'.ends
+    ends : PayloadEnds (told link) sends'.rest (is_full outcome) failed
+    ends = payload-ends (told link) (counts new) (counts link) sends'.rest outcome sends'.ends
 
     clash : (told new).unfailing ≡ true → (told link).unfailing ≡ false → ⊥
     clash e1 e2 = let e3 : (told link).unfailing ≡ (told new).unfailing = ap (λ (w : Told). w.unfailing) sends'.told' in cc
@@ -388,10 +449,10 @@ pub record Dials {L : Type 0} (told : L → Told) (net net' : NetTold) (now : �
   pub kept : at_of outcome ≡ None → net'.plan ≡ net.plan
 
 -- a dial that came up
-pub up-of : {L : Type 0} (told : L → Told) (net net' : NetTold) (was is : NetCounts) (now : ℕ) (a : Assoc L) (to : Endpoint) (link : L) (local : Endpoint) (pushed : List Decision)
+pub up-of : {L : Type 0} (told : L → Told) (counts : L → Counts) (net net' : NetTold) (was is : NetCounts) (now : ℕ) (a : Assoc L) (to : Endpoint) (link : L) (local : Endpoint) (pushed : List Decision)
     → Some to ≡ option_map (λ x. x.facts.to) (granted (a.state).decisions) → pushed ≡ (a.state).decisions ++ Decision.Reached to None ∷ []
-    → DialReaches told net net' was is to (Reached.Up link local) → SameLookups net net' → Dials told net net' now a to pushed (DialOutcome.CameUp local)
-up-of told net net' was is now a to link local pushed to' pushed' dial lookups = record {
+    → DialReaches told counts net net' was is to (Reached.Up link local) → SameLookups net net' → Dials told net net' now a to pushed (DialOutcome.CameUp local)
+up-of told counts net net' was is now a to link local pushed to' pushed' dial lookups = record {
   to' = to';
   pushed' = pushed';
   dials = dial.dials ∙ ap (λ (o : DialOutcome). dialled net.dials (record { to = to; outcome = o })) dial.answer;

@@ -6,7 +6,9 @@ use Rattle.addr_pattern.specs.declared.endpoint.Endpoint.{Endpoint}
 use Rattle.conf_model.specs.declared.config.Config.{Config}
 use Rattle.conf_model.specs.declared.protocol.Command.{Command}
 use Rattle.conf_model.specs.declared.user.User.{User}
+use Rattle.net_ends.specs.declared.kinds.Kind.{Kind}
 use Rattle.net_ends.specs.Counts.{Counts, Rose}
+use Rattle.net_ends.specs.Faults.{Tried}
 use Rattle.net_ends.specs.Nets.{DialOutcome, Dial, LookedUp, NetTold, Plan, SameLookups, dialled}
 use Rattle.net_ends.specs.Told.{Told, IsFresh, more}
 use Rattle.rule_list.specs.declared.facts.Facts.{Facts}
@@ -33,11 +35,12 @@ use Rattle.assoc_core.specs.Plain.{IsPlainRecord, HasAsked, HasDecided, Judged, 
 use Rattle.connect_core.specs.Reaching.{cause_of}
 use Rattle.assoc_core.specs.Reaching.{HasDialled, SameDesk, at_of}
 use Rattle.assoc_core.specs.Stands.{IsConnect, GoesDirect, Stands, Holds, HoldsTarget, EndsBehind, GivesFirst}
-use Rattle.assoc_core.specs.Turns.{Turns, StopsReading, SameOutside, SameTarget, DialsAre, LookupsAre, PlanStays, IsOuterOf, IsUnfailing, TakesNothing, IsFull, IsThereAnd, links, outer_of}
+use Rattle.assoc_core.specs.Turns.{Turns, StopsReading, SameOutside, SameTarget, DialsAre, LookupsAre, PlanStays, IsOuterOf, IsUnfailing, TakesNothing, TriedTarget, FaultIs, IsFull, IsThereAnd, is_write, links, outer_of}
 use Rattle.assoc_core.proofs.Answering.{still-left}
 use Rattle.assoc_core.proofs.PlainRecords.{passed_grant, plain-owes-client, plain-owes-target, granted-behind, unreached-behind}
 use Rattle.assoc_core.proofs.Reaching.{Dialling, connecting, dialler, at-behind, ds-behind, reached_behind, basis_of, context_of, before, behind, grant_of, phase-before, same-opening, due_t, plain-behind, payload-none, reach_acts, with_object, ReachSends, reaches-on}
 use Rattle.assoc_core.proofs.TalkTurns.{with_state}
+use Rattle.assoc_core.proofs.Tryings.{tried-as, target-tried-as}
 
 -- ---- what is owed
 
@@ -379,6 +382,12 @@ pub record Reaches {L : Type 0} (told : L → Told) (counts : L → Counts) (d :
   pub same_target : SameTarget told net a.target z.target
   pub fills_c : full_c ≡ true → (0 < length rest_c) × IsFull (told z.client) × Rose (counts a.client).idle_writes (counts z.client).idle_writes
   pub fills_t : full_t ≡ true → (0 < length rest_t) × IsThereAnd z.target (λ link. IsFull (told link))
+  pub failed_c : Option Kind
+  pub failed_t : Option Kind
+  pub tried_c : Tried (counts a.client) (counts z.client) (Unit {0}) ((y_c ≡ []) × (full_c ≡ false)) (Unit {0}) failed_c
+  pub tried_t : TriedTarget counts net a.target z.target (Unit {0}) (((z.state).sent_t ≡ []) × (full_t ≡ false)) (Unit {0}) failed_t
+  pub fault_is : FaultIs fault failed_c failed_t
+  pub unwritten_is : unwritten ≡ is_write failed_c || is_write failed_t
   pub fails_c : fault ≡ Some Object.Client → Rose (counts a.client).faults (counts z.client).faults
   pub unfailing : (told a.client).unfailing ≡ true → IsUnfailing told net a.target → (fault ≡ None) × (unwritten ≡ false)
 
@@ -429,6 +438,12 @@ turns-reached told counts d net net' a z o y_c rest_c rest_t full_c full_t fault
   full_t = λ e. ((h.fills_t e).1, short-of (z.state).sent_t rest_t _ ((h.writes).all_t ∙ sym (ap (λ (z : Option Endpoint). plain_to_target (prelude_of (before d)) d.c z) (at-behind d (at_of o)))) (h.fills_t e).0);
   room_c = λ e. ap (λ (z : List ℕ). length z) (h.stuck_c e);
   room_t = λ e. ap (λ (z : List ℕ). length z) (h.stuck_t e);
+  failed_c = h.failed_c;
+  failed_t = h.failed_t;
+  tried_c = tried-as h.tried_c (λ u. (refl, refl, refl)) (λ e. (ap (λ (z : List ℕ). length z) e.0, e.1)) (λ u. refl);
+  tried_t = target-tried-as counts net a.target z.target h.failed_t h.tried_t (λ u. (refl, refl, refl)) (λ e. (ap (λ (z : List ℕ). length z) e.0, e.1)) (λ u. refl);
+  fault_is = h.fault_is;
+  unwritten_is = h.unwritten_is;
   fails_c = h.fails_c;
   unfailing = h.unfailing;
 }

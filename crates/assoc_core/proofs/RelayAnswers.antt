@@ -64,7 +64,7 @@ relay-closes {L} told counts stands users pubs generation config cap h marks now
     x = pass_leaves told counts a (Next.Done e) pass k (Some cause)
 
     leaves : mid.state ≡ pass_leaves told counts a (Next.Done e) pass k a.state.cause
-    leaves = m ∙ pass-leaves _ _ _ _ _ _ a.state k.new pass k.passes
+    leaves = m ∙ pass-leaves _ _ _ _ _ _ _ _ a.state k.new pass k.passes
 
     line : close_line mid.state cause ≡ close_line x cause
     line = ap (λ (z : Record). close_line z cause) leaves
@@ -83,7 +83,7 @@ apart-by : {L : Type 0} {basis : Basis} (told : L → Told) (counts : L → Coun
     k.passes.takes_c.ends k.passes.takes_t.ends k.passes.gives_c.shuts k.passes.gives_t.shuts
 apart-by told counts a next pass k unshut = record {
   begun = k.begun;
-  sums = pass-sums _ _ _ _ _ _ a.state k.new pass k.at k.begun.reaches k.passes;
+  sums = pass-sums _ _ _ _ _ _ _ _ a.state k.new pass k.at k.begun.reaches k.passes;
   apart = by-shut _ _ (λ c t. unshut (k.passes.gives_c.shut' ∙ c) (k.passes.gives_t.shut' ∙ t));
 }
   where
@@ -96,12 +96,12 @@ apart-by told counts a next pass k unshut = record {
 shut-facts-c : {L : Type 0} {basis : Basis} (told : L → Told) (counts : L → Counts) (a : Assoc L) (next : Next L) (pass : Pass) (k : RelayTurn told counts basis a next pass) → k.new.shut_c ≡ true
     → (k.new.end_t ≡ true) × (k.passes.gives_c.rest ≡ [])
 shut-facts-c told counts a next pass k h =
-    let f = shut-c a.state k.at _ _ _ _ _ _ _ _ _ _ k.begun (pass-sums _ _ _ _ _ _ a.state k.new pass k.at k.begun.reaches k.passes) (sym k.passes.gives_c.shut' ∙ h) in (k.passes.takes_t.ended' ∙ f.0, f.1)
+    let f = shut-c a.state k.at _ _ _ _ _ _ _ _ _ _ k.begun (pass-sums _ _ _ _ _ _ _ _ a.state k.new pass k.at k.begun.reaches k.passes) (sym k.passes.gives_c.shut' ∙ h) in (k.passes.takes_t.ended' ∙ f.0, f.1)
 
 shut-facts-t : {L : Type 0} {basis : Basis} (told : L → Told) (counts : L → Counts) (a : Assoc L) (next : Next L) (pass : Pass) (k : RelayTurn told counts basis a next pass) → k.new.shut_t ≡ true
     → (k.new.end_c ≡ true) × (k.passes.gives_t.rest ≡ [])
 shut-facts-t told counts a next pass k h =
-    let f = shut-t a.state k.at _ _ _ _ _ _ _ _ _ _ k.begun (pass-sums _ _ _ _ _ _ a.state k.new pass k.at k.begun.reaches k.passes) (sym k.passes.gives_t.shut' ∙ h) in (k.passes.takes_c.ended' ∙ f.0, f.1)
+    let f = shut-t a.state k.at _ _ _ _ _ _ _ _ _ _ k.begun (pass-sums _ _ _ _ _ _ _ _ a.state k.new pass k.at k.begun.reaches k.passes) (sym k.passes.gives_t.shut' ∙ h) in (k.passes.takes_c.ended' ∙ f.0, f.1)
 
 unsound-clash : (rest : List ℕ) (ends shut : Bool) → (0 < length rest) ⊎ ((ends ≡ true) × (shut ≡ false)) → rest ≡ [] → shut ≡ true → ⊥
 unsound-clash rest ends shut (inl h) none k = clash (is_nothing rest) (ap is_nothing none) (some-left rest h)
@@ -142,7 +142,7 @@ relay-again told counts stands users pubs generation config cap h marks now net 
     relay = apart-by told counts a (Next.Again mid) pass k unshut
 
     leaves : mid.state ≡ pass_leaves told counts a (Next.Again mid) pass k a.state.cause
-    leaves = m ∙ pass-leaves _ _ _ _ _ _ a.state k.new pass k.passes
+    leaves = m ∙ pass-leaves _ _ _ _ _ _ _ _ a.state k.new pass k.passes
 
 or-no : (a b : Bool) → a || b ≡ false → (a ≡ false) × (b ≡ false)
 or-no true b h = absurd (cc)
@@ -178,7 +178,7 @@ relay-waits told counts stands users pubs generation config cap h marks now net 
     relay = apart-by told counts a (Next.Wait mid) pass k unshut
 
     leaves : mid.state ≡ pass_leaves told counts a (Next.Wait mid) pass k a.state.cause
-    leaves = m ∙ pass-leaves _ _ _ _ _ _ a.state k.new pass k.passes
+    leaves = m ∙ pass-leaves _ _ _ _ _ _ _ _ a.state k.new pass k.passes
 
     fine : (is_read pass.took_c ≡ true) × (is_sound pass.gave_t ≡ true) × (is_read pass.took_t ≡ true) × (is_sound pass.gave_c ≡ true)
     fine = tells-of pass None none
@@ -346,7 +346,7 @@ fault-waits told counts stands users pubs generation config cap h marks now net 
     relay = (in-fault told counts a (Next.Wait mid) pass k Object.Target is_fault).relay
 
     leaves : mid.state ≡ pass_leaves told counts a (Next.Wait mid) pass k (Some Cause.TargetFault)
-    leaves = m ∙ ap (λ (z : Record). let y : Record = record z { cause = Some Cause.TargetFault } in y) (pass-leaves _ _ _ _ _ _ a.state k.new pass k.passes)
+    leaves = m ∙ ap (λ (z : Record). let y : Record = record z { cause = Some Cause.TargetFault } in y) (pass-leaves _ _ _ _ _ _ _ _ a.state k.new pass k.passes)
 
 pub fault-again : {L : Type 0} (told : L → Told) (counts : L → Counts) (stands : List Line → List StopBy → Type 0)
     (users : List User) (pubs : List Config) (generation : ℕ) (config : Config) (cap : ℕ) (h : List Line) (marks : List StopBy) (now : ℕ) (net : NetTold)
@@ -363,7 +363,7 @@ fault-again told counts stands users pubs generation config cap h marks now net 
     relay = (in-fault told counts a (Next.Again mid) pass k Object.Target is_fault).relay
 
     leaves : mid.state ≡ pass_leaves told counts a (Next.Again mid) pass k (Some Cause.TargetFault)
-    leaves = m ∙ ap (λ (z : Record). let y : Record = record z { cause = Some Cause.TargetFault } in y) (pass-leaves _ _ _ _ _ _ a.state k.new pass k.passes)
+    leaves = m ∙ ap (λ (z : Record). let y : Record = record z { cause = Some Cause.TargetFault } in y) (pass-leaves _ _ _ _ _ _ _ _ a.state k.new pass k.passes)
 
 -- ---- both sides are shut
 
@@ -376,14 +376,14 @@ pub relay-finishes : {L : Type 0} (told : L → Told) (counts : L → Counts) (s
 relay-finishes told counts stands users pubs generation config cap h marks now net a mid e pass k none written m closed same both_c both_t =
     relay-closes told counts stands users pubs generation config cap h marks now net a mid e pass k None false Cause.Finished refl none written m closed
     (λ worker logged. finishes users pubs generation config cap h marks worker a.state.number now a.state k.at _ _ _ _ _ _ _ _ _ _ (is_idle pass.took_c) (is_idle pass.took_t) (is_full pass.gave_c) (is_full pass.gave_t) logged
-    k.begun (pass-sums _ _ _ _ _ _ a.state k.new pass k.at k.begun.reaches k.passes) same (sym k.passes.gives_c.shut' ∙ both_c) (sym k.passes.gives_t.shut' ∙ both_t))
+    k.begun (pass-sums _ _ _ _ _ _ _ _ a.state k.new pass k.at k.begun.reaches k.passes) same (sym k.passes.gives_c.shut' ∙ both_c) (sym k.passes.gives_t.shut' ∙ both_t))
 
 -- ---- between the code and the turn
 
 -- a pass that was made, and an association that ended behind it
 abbrev pub done-turn : {L : Type 0} {basis : Basis} (told : L → Told) (counts : L → Counts) (a mid : Assoc L) (e : Ended L) (link link' : L) (at : Endpoint) (pass : Pass)
     → Stands told basis a → Begun basis a.state at → a.target ≡ Some link → mid.target ≡ Some link'
-    → Passes (told a.client) (told mid.client) (told link) (told link') (counts a.client) (counts mid.client) (prelude_of a.state) a.state mid.state pass
+    → Passes (told a.client) (told mid.client) (told link) (told link') (counts a.client) (counts mid.client) (counts link) (counts link') (prelude_of a.state) a.state mid.state pass
     → e.client ≡ mid.client → e.target ≡ mid.target → RelayTurn told counts basis a (Next.Done e) pass
 done-turn {L} told counts a mid e link link' at pass stands begun there there' passes client target = record {
   link = link;
@@ -394,13 +394,13 @@ done-turn {L} told counts a mid e link link' at pass stands begun there there' p
   begun = begun;
   target = there;
   target' = target ∙ there';
-  passes = subst (λ (z : L). Passes (told a.client) (told z) (told link) (told link') (counts a.client) (counts z) (prelude_of a.state) a.state mid.state pass) (sym client) passes;
+  passes = subst (λ (z : L). Passes (told a.client) (told z) (told link) (told link') (counts a.client) (counts z) (counts link) (counts link') (prelude_of a.state) a.state mid.state pass) (sym client) passes;
 }
 
 -- the record in hand has no datagrams
-pub mid-tcp : (users : List User) (old new : Record) (client client' target target' : Told) (counts counts' : Counts) (pass : Pass) → IsPlainRecord users old
-    → Passes client client' target target' counts counts' (prelude_of old) old new pass → is_udp new ≡ false
-mid-tcp users old new client client' target target' counts counts' pass plain passes = ap is_udp passes.is ∙ plain-tcp users old plain
+pub mid-tcp : (users : List User) (old new : Record) (client client' target target' : Told) (counts counts' sunk sunk' : Counts) (pass : Pass) → IsPlainRecord users old
+    → Passes client client' target target' counts counts' sunk sunk' (prelude_of old) old new pass → is_udp new ≡ false
+mid-tcp users old new client client' target target' counts counts' sunk sunk' pass plain passes = ap is_udp passes.is ∙ plain-tcp users old plain
 
 pub none-written : (pass : Pass) → fault_of pass ≡ None → unwritten_of pass ≡ false
 none-written pass h = let f = tells-of pass None h in rw (sound-written pass.gave_t f.1, sound-written pass.gave_c f.3) refl

@@ -30,24 +30,26 @@ use Rattle.socks_machine.proofs.TurnStages.{takes-is}
 use Rattle.assoc_core.specs.declared.assoc.Assoc.{Assoc}
 use Rattle.assoc_core.specs.declared.assoc.Next.{Next}
 use Rattle.assoc_core.specs.declared.relay.Pass.{Pass}
-use Rattle.assoc_core.specs.Carrying.{Passes, waiting_of, is_read, is_sound, is_idle, is_full, fault_of, unwritten_of}
+use Rattle.assoc_core.specs.Carrying.{Passes, waiting_of, is_read, is_sound, is_idle, is_full, fault_of, unwritten_of, first_failed, failed_giving, failed_taking}
 use Rattle.assoc_core.specs.Plain.{IsPlainRecord, is_login_failed, owed_c, owed_t, prelude_of, replies_by}
 use Rattle.assoc_core.specs.Stands.{Holds, HoldsTarget, Stands}
-use Rattle.assoc_core.specs.Turns.{Acts, event_of, context, links, Turns, GoesOn, left_of, mark_of, DialsAre, LookupsAre, PlanStays, IsOuterOf, IsIdle, IsFull, Filled, IsThereAnd, IsUnfailing, TakesNothing, SameTarget}
+use Rattle.assoc_core.specs.Turns.{Acts, event_of, context, links, Turns, GoesOn, left_of, mark_of, DialsAre, LookupsAre, PlanStays, IsOuterOf, IsIdle, IsFull, Filled, IsThereAnd, IsUnfailing, TakesNothing, SameTarget, FaultIs}
 use Rattle.assoc_core.proofs.LinksHeld.{holds-taken, holds-given, ends-given, first-given, idle-given, full-taken, outside-given, outside-taken, outside-on, short}
 use Rattle.assoc_core.proofs.PassLaws.{ended-of, idle-of, unread-of, stops-of, full-of, unsound-of, held-full, FaultTells, fault-tells, fault-none, fault-unread, fault-read, fault-first, fault-unsound-t, fault-unsound-c, sound-written}
 use Rattle.assoc_core.proofs.RelayEnds.{in-phase}
 use Rattle.assoc_core.proofs.RelayRecords.{is-relayed, plain-relay-facts}
 use Rattle.assoc_core.proofs.RelaySums.{clash, Sums, summed, Begun, sum_acts, relays, replies-owe, sent-c, sent-t, sums-carried}
 use Rattle.assoc_core.proofs.Sendings.{rose-before, rose-after}
+use Rattle.assoc_core.proofs.PassKinds.{fault-kinds, target-tried, unwritten-kinds}
+use Rattle.assoc_core.proofs.Tryings.{added-none, tried-as}
 use Rattle.assoc_core.proofs.Waiting.{client-waits, target-waits}
 
 -- ---- the sums of a pass
 
 -- the record that a pass leaves
-pub pass-leaves : (client client' target target' : Told) (counts counts' : Counts) (old new : Record) (pass : Pass) → (p : Passes client client' target target' counts counts' (prelude_of old) old new pass)
+pub pass-leaves : (client client' target target' : Told) (counts counts' sunk sunk' : Counts) (old new : Record) (pass : Pass) → (p : Passes client client' target target' counts counts' sunk sunk' (prelude_of old) old new pass)
     → new ≡ summed old p.takes_c.part p.takes_t.part p.gives_c.part p.gives_t.part p.takes_c.ends p.takes_t.ends p.gives_c.shuts p.gives_t.shuts old.cause
-pass-leaves client client' target target' counts counts' old new pass p = p.is ∙ (λ i. record old {
+pass-leaves client client' target target' counts counts' sunk sunk' old new pass p = p.is ∙ (λ i. record old {
   c = p.takes_c.after' i;
   t = p.takes_t.after' i;
   end_c = p.takes_c.ended' i;
@@ -58,10 +60,10 @@ pass-leaves client client' target target' counts counts' old new pass p = p.is �
   shut_t = p.gives_t.shut' i;
 })
 
-pub pass-sums : (client client' target target' : Told) (counts counts' : Counts) (old new : Record) (pass : Pass) (at : Endpoint) → reached_at old.decisions ≡ Some at
-    → (p : Passes client client' target target' counts counts' (prelude_of old) old new pass)
+pub pass-sums : (client client' target target' : Told) (counts counts' sunk sunk' : Counts) (old new : Record) (pass : Pass) (at : Endpoint) → reached_at old.decisions ≡ Some at
+    → (p : Passes client client' target target' counts counts' sunk sunk' (prelude_of old) old new pass)
     → Sums old p.takes_c.part p.takes_t.part p.gives_c.part p.gives_c.rest p.gives_t.part p.gives_t.rest p.takes_c.ends p.takes_t.ends p.gives_c.shuts p.gives_t.shuts
-pass-sums client client' target target' counts counts' old new pass at reaches p = record {
+pass-sums client client' target target' counts counts' sunk sunk' old new pass at reaches p = record {
   may_c = p.takes_c.may;
   may_t = p.takes_t.may;
   pending_c = p.gives_c.pending' ∙ ap (drop (length old.sent_c)) ((λ i. replies_by (p.takes_c.after' i) old.chosen old.cause (reached_at old.decisions) ++ p.takes_t.after' i)
@@ -139,7 +141,7 @@ pub record RelayTurn {L : Type 0} (told : L → Told) (counts : L → Counts) (b
   pub begun : Begun basis a.state at
   pub target : a.target ≡ Some link
   pub target' : (left_of next).target ≡ Some link'
-  pub passes : Passes (told a.client) (told (left_of next).client) (told link) (told link') (counts a.client) (counts (left_of next).client) (prelude_of a.state) a.state new pass
+  pub passes : Passes (told a.client) (told (left_of next).client) (told link) (told link') (counts a.client) (counts (left_of next).client) (counts link) (counts link') (prelude_of a.state) a.state new pass
 
 -- what such a turn did
 abbrev pub pass_acts : {L : Type 0} {basis : Basis} (told : L → Told) (counts : L → Counts) (a : Assoc L) (next : Next L) (pass : Pass) → RelayTurn told counts basis a next pass → Acts
@@ -167,7 +169,7 @@ waits-client told counts users pubs generation config cap h marks a next pass k 
     client-waits users pubs a.state k.at p.takes_c.part p.takes_t.part p.gives_c.part p.gives_t.part p.takes_c.ends p.takes_t.ends false false cause k.begun sound plain began
     ∙ (λ i. waiting_of (replies_by (sym p.takes_c.after' i) a.state.chosen a.state.cause (reached_at a.state.decisions)) 0 (sym p.takes_t.after' i) (length (sym p.gives_c.after' i)))
   where
-    p : Passes (told a.client) (told (left_of next).client) (told k.link) (told k.link') (counts a.client) (counts (left_of next).client) (prelude_of a.state) a.state k.new pass
+    p : Passes (told a.client) (told (left_of next).client) (told k.link) (told k.link') (counts a.client) (counts (left_of next).client) (counts k.link) (counts k.link') (prelude_of a.state) a.state k.new pass
     p = k.passes
 
     s : Context
@@ -177,7 +179,7 @@ waits-client told counts users pubs generation config cap h marks a next pass k 
     facts = plain-relay-facts users pubs generation config cap h marks a.state k.at k.begun.plain k.begun.reaches k.begun.uncaused k.begun.direct
 
     plain : IsPlainRecord users (summed a.state p.takes_c.part p.takes_t.part p.gives_c.part p.gives_t.part p.takes_c.ends p.takes_t.ends false false cause)
-    plain = sums-carried a.state k.at _ _ _ _ _ _ _ _ _ _ cause sound k.begun (sums-unshut a.state _ _ _ _ _ _ _ _ _ _ (pass-sums _ _ _ _ _ _ a.state k.new pass k.at k.begun.reaches p))
+    plain = sums-carried a.state k.at _ _ _ _ _ _ _ _ _ _ cause sound k.begun (sums-unshut a.state _ _ _ _ _ _ _ _ _ _ (pass-sums _ _ _ _ _ _ _ _ a.state k.new pass k.at k.begun.reaches p))
         (is-relayed users a.state k.at k.begun.plain k.begun.reaches).dialled.apart
 
     began : relay_began (socks users pubs) (summed a.state p.takes_c.part p.takes_t.part p.gives_c.part p.gives_t.part p.takes_c.ends p.takes_t.ends false false cause) ≡ true
@@ -259,11 +261,17 @@ relay-turns {L} told counts stands users pubs generation config cap h marks now 
       (subst (λ (z : Option L). IsThereAnd z (λ link. IsFull (told link))) (sym k.target') (full-taken p.takes_t f.1), short _ p.gives_t.rest _ owes_t f.0);
   room_c = λ e. ap (λ (z : List ℕ). length z) (p.gives_c.stuck ((outside-taken p.takes_c).room ∙ e));
   room_t = λ e. ap (λ (z : List ℕ). length z) (p.gives_t.stuck (subst (λ (z : Option L). TakesNothing told net z) k.target e));
+  failed_c = first_failed (failed_taking pass.took_c) (failed_giving pass.gave_c);
+  failed_t = first_failed (failed_giving pass.gave_t) (failed_taking pass.took_t);
+  tried_c = tried-as p.tried_c (λ x. (added-none _ _ _ p.takes_c.after' x.0, x.1, x.2)) (λ x. (ap (λ (z : List ℕ). length z) (added-none _ _ _ p.gives_c.after' x.0), x.1)) (λ x. x);
+  tried_t = target-tried counts net _ k.target k.target' (tried-as p.tried_t (λ x. (added-none _ _ _ p.takes_t.after' x.0, x.1, x.2)) (λ x. (ap (λ (z : List ℕ). length z) (added-none _ _ _ p.gives_t.after' x.0), x.1)) (λ x. x));
+  fault_is = subst (λ (z : Option Object). FaultIs z (first_failed (failed_taking pass.took_c) (failed_giving pass.gave_c)) (first_failed (failed_giving pass.gave_t) (failed_taking pass.took_t))) is_fault (fault-kinds pass);
+  unwritten_is = sym is_unwritten' ∙ unwritten-kinds pass (λ e. (p.held e).2);
   fails_c = λ e. client-fails (subst (λ (z : Option Object). FaultTells z (is_read pass.took_c) (is_sound pass.gave_t) (is_read pass.took_t) (is_sound pass.gave_c)) e tells);
   unfailing = λ fine fine_t. (sym is_fault ∙ fault-none _ _ _ _ (read_fine_c fine) (sound_fine_t fine_t) (read_fine_t fine_t) (sound_fine_c fine), sym is_unwritten' ∙ both-false _ _ (sound-written pass.gave_t (sound_fine_t fine_t)) (sound-written pass.gave_c (sound_fine_c fine)));
 }
   where
-    p : Passes (told a.client) (told (left_of next).client) (told k.link) (told k.link') (counts a.client) (counts (left_of next).client) (prelude_of a.state) a.state k.new pass
+    p : Passes (told a.client) (told (left_of next).client) (told k.link) (told k.link') (counts a.client) (counts (left_of next).client) (counts k.link) (counts k.link') (prelude_of a.state) a.state k.new pass
     p = k.passes
 
     s : Context
@@ -276,13 +284,13 @@ relay-turns {L} told counts stands users pubs generation config cap h marks now 
     left = record (pass_leaves told counts a next pass k cause) { at_close = at_close; done = done }
 
     leaves : k.new ≡ pass_leaves told counts a next pass k a.state.cause
-    leaves = pass-leaves _ _ _ _ _ _ a.state k.new pass p
+    leaves = pass-leaves _ _ _ _ _ _ _ _ a.state k.new pass p
 
     target : HoldsTarget told a.state (Some k.link)
     target = subst (λ (z : Option L). HoldsTarget told a.state z) k.target k.stands.target
 
     sums : Sums a.state p.takes_c.part p.takes_t.part p.gives_c.part p.gives_c.rest p.gives_t.part p.gives_t.rest p.takes_c.ends p.takes_t.ends p.gives_c.shuts p.gives_t.shuts
-    sums = pass-sums _ _ _ _ _ _ a.state k.new pass k.at k.begun.reaches p
+    sums = pass-sums _ _ _ _ _ _ _ _ a.state k.new pass k.at k.begun.reaches p
 
     read_both : Sums a.state p.takes_c.part p.takes_t.part p.gives_c.part p.gives_c.rest p.gives_t.part p.gives_t.rest p.takes_c.ends p.takes_t.ends false false
     read_both = sums-unshut a.state _ _ _ _ _ _ _ _ _ _ sums

@@ -2,6 +2,8 @@
 use Rattle.std.proofs.Common.{◌≡◌, ℕ, ◌<◌, Bool, true, false, ◌&&◌, ◌||◌, ◌⊎◌, Option, Some, None, List, [], ◌++◌, length, refl, sym, ap, subst, ◌∙◌, inl, inr}
 use Rattle.std.proofs.lemmas.List.{append-nil}
 use Rattle.net_ends.specs.Counts.{Counts, Rose}
+use Rattle.net_ends.specs.Faults.{Tried}
+use Rattle.net_ends.specs.declared.kinds.Kind.{Kind}
 use Rattle.net_ends.specs.Nets.{NetTold}
 use Rattle.net_ends.specs.Told.{Told}
 use Rattle.socks_machine.specs.declared.cause.Cause.{Cause}
@@ -26,7 +28,8 @@ use Rattle.assoc_core.specs.declared.assoc.Next.{Next}
 use Rattle.assoc_core.specs.Closing.{Closed}
 use Rattle.assoc_core.specs.Hearing.{IsAtEnd}
 use Rattle.assoc_core.specs.Stands.{Stands, GivesFirst}
-use Rattle.assoc_core.specs.Turns.{Turns, links, StopsReading, IsIdle}
+use Rattle.assoc_core.specs.Turns.{Turns, FaultIs, links, StopsReading, IsIdle, is_write}
+use Rattle.assoc_core.proofs.Tryings.{tried-as}
 use Rattle.assoc_core.proofs.Talking.{Hearing, talker, basis_of, context_of, before, heard_takings, answered, let_in}
 use Rattle.assoc_core.proofs.TalkTurns.{turns-talked, talk_acts, talk_event, heard_told, with_state}
 
@@ -100,6 +103,10 @@ pub record ClosesTalk {L : Type 0} (told : L → Told) (counts : L → Counts) (
   pub at_end : ends ≡ true → IsAtEnd (told b.client)
   pub first : GivesFirst (told b.client)
   pub idle_c : idle ≡ true → IsIdle (told b.client) × Rose (counts a.client).idle_reads (counts b.client).idle_reads
+  pub failed : Option Kind
+  pub tried : Tried (counts a.client) (counts b.client) ((t.x ≡ []) × (ends ≡ false) × (idle ≡ false)) (y ≡ []) (Unit {0}) failed
+  pub fault_is : FaultIs fault failed None
+  pub unwritten_is : unwritten ≡ is_write failed
   pub fails_c : fault ≡ Some Object.Client → Rose (counts a.client).faults (counts b.client).faults
   pub unfailing : (told a.client).unfailing ≡ true → (fault ≡ None) × (unwritten ≡ false)
 
@@ -139,6 +146,11 @@ turns-closed told counts stands t net a b e y sent ends idle fault unwritten cau
       short = h.short;
       idle_c = λ e1. subst (λ (z : _). IsIdle (told z) × Rose (counts a.client).idle_reads (counts z).idle_reads) (sym closed.client) (h.idle_c e1);
       full_c = λ e1. absurd (cc);
+      failed = h.failed;
+      tried = subst (λ (z : _). Tried (counts a.client) (counts z) ((t.x ≡ []) × (ends ≡ false) × (idle ≡ false)) ((y ≡ []) × (false ≡ false)) (Unit {0}) h.failed) (sym closed.client)
+          (tried-as h.tried (λ x. x) (λ x. (x, refl)) (λ x. tt));
+      fault_is = h.fault_is;
+      unwritten_is = h.unwritten_is;
       fails_c = λ e1. subst (λ (z : _). Rose (counts a.client).faults (counts z).faults) (sym closed.client) (h.fails_c e1);
       unfailing = h.unfailing;
     })

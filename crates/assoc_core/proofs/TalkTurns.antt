@@ -1,6 +1,8 @@
 -- The turns with a client that talks.
 use Rattle.std.proofs.Common.{◌≡◌, ℕ, ◌<◌, Bool, true, false, ◌||◌, Option, Some, None, List, [], ◌++◌, length, refl, sym, ap, subst, ◌∙◌, length-append, is_some}
 use Rattle.net_ends.specs.Counts.{Counts, Rose}
+use Rattle.net_ends.specs.Faults.{Tried}
+use Rattle.net_ends.specs.declared.kinds.Kind.{Kind}
 use Rattle.net_ends.specs.Nets.{NetTold}
 use Rattle.net_ends.specs.Told.{Told, more}
 use Rattle.socks_machine.specs.declared.cause.StopBy.{StopBy}
@@ -22,8 +24,9 @@ use Rattle.assoc_core.specs.declared.assoc.Next.{Next}
 use Rattle.assoc_core.specs.Hearing.{IsAtEnd}
 use Rattle.assoc_core.specs.Plain.{owed_c}
 use Rattle.assoc_core.specs.Stands.{GoesDirect, Stands, Holds, EndsBehind, GivesFirst, HoldsTarget}
-use Rattle.assoc_core.specs.Turns.{Turns, Acts, event_of, links, mark_of, left_of, GoesOn, IsIdle, IsFull, SameOutside, SameTarget, DialsAre, LookupsAre, PlanStays, IsOuterOf, StopsReading}
+use Rattle.assoc_core.specs.Turns.{Turns, Acts, event_of, links, mark_of, left_of, GoesOn, IsIdle, IsFull, SameOutside, SameTarget, DialsAre, FaultIs, LookupsAre, PlanStays, IsOuterOf, StopsReading, TriedTarget, is_write}
 use Rattle.assoc_core.proofs.StandsLaws.{SameTargetSide, target-same, same-target}
+use Rattle.assoc_core.proofs.Tryings.{target-untried, tried-as}
 use Rattle.assoc_core.proofs.Talking.{Hearing, Speaking, basis_of, context_of, before, speaking, spoken_to, spoken_in, unspoken, spoken_takings}
 
 -- ---- what its link tells
@@ -133,6 +136,10 @@ pub record Talked {L : Type 0} (told : L → Told) (counts : L → Counts) (stan
   pub idle_c : idle ≡ true → IsIdle (told (left_of next).client) × Rose (counts a.client).idle_reads (counts (left_of next).client).idle_reads
   pub full_c : full ≡ true → IsFull (told (left_of next).client) × Rose (counts a.client).idle_writes (counts (left_of next).client).idle_writes
       × (length (result.left).sent_c < length (owed_c result.left))
+  pub failed : Option Kind
+  pub tried : Tried (counts a.client) (counts (left_of next).client) ((t.x ≡ []) × (ends ≡ false) × (idle ≡ false)) ((y ≡ []) × (full ≡ false)) (Unit {0}) failed
+  pub fault_is : FaultIs fault failed None
+  pub unwritten_is : unwritten ≡ is_write failed
   pub fails_c : fault ≡ Some Object.Client → Rose (counts a.client).faults (counts (left_of next).client).faults
   pub unfailing : (told a.client).unfailing ≡ true → (fault ≡ None) × (unwritten ≡ false)
 
@@ -153,7 +160,7 @@ pub turns-called : {L : Type 0} (told : L → Told) (counts : L → Counts) (sta
     → Stands told (spoken_to t) (with_state a (unspoken t)) → (h : Talked told counts stands t now a next y ends outer idle full fault unwritten)
     → CallsOut net net' (phase (spoken_to t) h.behind) outer (is_some (reached_at (h.result).left.decisions))
     → Turns told counts stands (spoken_in t) now net net' (with_state a (unspoken t)) next
-turns-called told counts stands t now net net' a next y ends outer idle full fault unwritten k h calls = record {
+turns-called {L = L} told counts stands t now net net' a next y ends outer idle full fault unwritten k h calls = record {
   acts = speak_acts t.x ends outer (length y) idle full fault unwritten;
   result = h.result;
   lawful = h.lawful;
@@ -207,6 +214,13 @@ turns-called told counts stands t now net net' a next y ends outer idle full fau
   full_t = λ e. absurd (cc);
   room_c = λ e. ap (λ (z : List ℕ). length z) (h.stuck e);
   room_t = λ e. refl;
+  failed_c = h.failed;
+  failed_t = None;
+  tried_c = tried-as h.tried (λ x. x) (λ x. (ap (λ (z : List ℕ). length z) x.0, x.1)) (λ x. refl);
+  tried_t = subst (λ (o : Option L). TriedTarget counts net a.target o ((acts'.t ≡ []) × (acts'.end_t ≡ false) × (acts'.idle_t ≡ false)) ((acts'.sent_t ≡ 0) × (acts'.full_t ≡ false)) (acts'.shut_t ≡ false) None) (sym h.target')
+      (target-untried counts net a.target (refl, refl, refl) (refl, refl) refl);
+  fault_is = h.fault_is;
+  unwritten_is = h.unwritten_is ∙ sym (or-false (is_write h.failed));
   fails_c = h.fails_c;
   unfailing = λ e1 e2. h.unfailing e1;
 }

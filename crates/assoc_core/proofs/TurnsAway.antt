@@ -8,6 +8,8 @@ use Rattle.conf_model.specs.declared.user.User.{User}
 use Rattle.conf_model.specs.Handshake.{Split}
 use Rattle.handshake_core.specs.Taking.{refusal_of}
 use Rattle.net_ends.specs.Counts.{Counts, Rose}
+use Rattle.net_ends.specs.Faults.{Tried}
+use Rattle.net_ends.specs.declared.kinds.Kind.{Kind}
 use Rattle.net_ends.specs.Nets.{NetTold}
 use Rattle.net_ends.specs.Told.{Told, more}
 use Rattle.socks_machine.specs.declared.cause.Cause.{Cause}
@@ -32,12 +34,12 @@ use Rattle.assoc_core.specs.declared.send.Sent.{Sent}
 use Rattle.assoc_core.specs.Closing.{Closed}
 use Rattle.assoc_core.specs.Hearing.{HasHeard}
 use Rattle.assoc_core.specs.Plain.{IsPlainRecord, owed_c, is_login_failed, is_failed_split}
-use Rattle.assoc_core.specs.Sending.{Sends, SendEnds}
+use Rattle.assoc_core.specs.Sending.{Sends, SendEnds, failed_sending, is_full}
 use Rattle.assoc_core.specs.Stands.{GivesFirst}
 use Rattle.assoc_core.specs.Turns.{Turns, StopsReading, links, context}
-use Rattle.assoc_core.proofs.Answering.{all-owed, nothing-left, or-true, still-left, told-sent, with_link}
+use Rattle.assoc_core.proofs.Answering.{all-owed, nothing-left, or-true, sent-tried, still-left, told-sent, with_link}
 use Rattle.assoc_core.proofs.AskTurns.{pending-middle}
-use Rattle.assoc_core.proofs.HeardTurns.{Fits, hearing_of, behind-is, heard-as, stands-before, turns-before, owes_now, owes-caused, plain-caused, first-sent}
+use Rattle.assoc_core.proofs.HeardTurns.{Fits, hearing_of, behind-is, heard-as, heard-tried, stands-before, turns-before, owes_now, owes-caused, plain-caused, first-sent}
 use Rattle.assoc_core.proofs.LinksHeld.{short}
 use Rattle.assoc_core.proofs.PlainRecords.{closing-phase}
 use Rattle.assoc_core.proofs.Rests.{rests-with}
@@ -45,6 +47,7 @@ use Rattle.assoc_core.proofs.Sendings.{rose-before}
 use Rattle.assoc_core.proofs.Talking.{Hearing, basis_of, context_of, before, heard, refused, heard_takings, split_heard, takes-open, settled-refused, refused-something}
 use Rattle.assoc_core.proofs.TalkTurns.{turns-talked, talk_acts, talk_event, heard_told, with_state}
 use Rattle.assoc_core.proofs.TalkCloses.{turns-closed, caused, talk-stages}
+use Rattle.assoc_core.proofs.Tryings.{tried-as, tried-on}
 
 -- ---- the cause of a refused input
 
@@ -95,6 +98,7 @@ pub record Away {L : Type 0} (told : L → Told) (counts : L → Counts) (t : He
   pub after' : s.sent_c ≡ t.sent ++ y
   pub told' : told client ≡ heard_told (told a.client) t.x y false
   pub stuck : (told a.client).room ≡ Some 0 → y ≡ []
+  pub tried : Tried (counts a.client) (counts client) (t.x ≡ []) ((y ≡ []) × (is_full outcome ≡ false)) (Unit {0}) (failed_sending outcome)
   pub all : s.sent_c ++ rest ≡ owes_now t (Some cause)
   pub ends : SendEnds (told client) (counts b.client) (counts client) rest outcome
 
@@ -112,6 +116,8 @@ away told counts users pubs generation config most h marks a b client s cause ou
   after' = sends'.after';
   told' = told-sent (told a.client) (told b.client) (told client) t.x sends'.bytes false (k.hears).told' sends'.told';
   stuck = λ e. sends'.stuck (ap (λ (z : Told). z.room) (k.hears).told' ∙ e);
+  tried = tried-on (heard-tried (told a.client) (told b.client) (counts a.client) (counts b.client) (a.state).c (b.state).c (IsRefused cause) k.hears)
+      (sent-tried (told b.client) (told client) (counts b.client) (counts client) t.sent s.sent_c _ outcome sends') (λ x y. x.0) (λ x y. y) (λ x y. tt);
   all = ap (λ z. z ++ sends'.rest) sends'.after' ∙ all-owed t.sent sends'.bytes sends'.rest (owes_now t (Some cause)) (first-sent t (Some cause) fits) sends'.pending';
   ends = sends'.ends;
 }
@@ -150,20 +156,20 @@ closed-uncaused : {L : Type 0} (stands : List Line → List StopBy → Type 0) (
 closed-uncaused stands h marks cause b e k = record { said = k.said; closes = k.closes; state' = k.state'; client = k.client; target = k.target }
 
 -- why it closes: all was sent, or the write failed
-pub data Closes {L : Type 0} (told : L → Told) (counts : L → Counts) (b : Assoc L) (client : L) (rest : List ℕ) (failed : Bool) : Type 0 where
-  done : failed ≡ false → rest ≡ [] → Closes told counts b client rest failed
-  failed' : failed ≡ true → 0 < length rest → (told client).unfailing ≡ false → Rose (counts b.client).faults (counts client).faults → Closes told counts b client rest failed
+pub data Closes {L : Type 0} (told : L → Told) (counts : L → Counts) (b : Assoc L) (client : L) (rest : List ℕ) (outcome : Sent) : Type 0 where
+  done : outcome ≡ Sent.All → rest ≡ [] → Closes told counts b client rest outcome
+  failed' : outcome ≡ Sent.Failed → 0 < length rest → (told client).unfailing ≡ false → Rose (counts b.client).faults (counts client).faults → Closes told counts b client rest outcome
 
 pub turns-away : {L : Type 0} (told : L → Told) (counts : L → Counts) (stands : List Line → List StopBy → Type 0) (users : List User) (pubs : List Config) (generation : ℕ) (config : Config) (most : ℕ) (h : List Line) (marks : List StopBy)
-    (now : ℕ) (net : NetTold) (a b : Assoc L) (client : L) (s : Record) (e : Ended L) (cause : Cause) (failed : Bool) (outcome : Sent)
+    (now : ℕ) (net : NetTold) (a b : Assoc L) (client : L) (s : Record) (e : Ended L) (cause : Cause) (outcome : Sent)
     → HasHeard told counts (socks users pubs) generation config a b None (IsRefused cause) → (a.state).since ≡ now
     → s ≡ (let r = b.state in record r { sent_c = s.sent_c; cause = Some cause })
     → Sends (told b.client) (told client) (counts b.client) (counts client) (b.state).sent_c s.sent_c (drop (length (b.state).sent_c) (owed_c (let r = b.state in record r { cause = Some cause }))) outcome
-    → ((rest : List ℕ) → SendEnds (told client) (counts b.client) (counts client) rest outcome → Closes told counts b client rest failed)
+    → ((rest : List ℕ) → SendEnds (told client) (counts b.client) (counts client) rest outcome → Closes told counts b client rest outcome)
     → (is_udp s ≡ false → Closed stands h marks cause (with_link b s client) e)
     → Turns told counts stands (context users pubs generation config most h marks) now net net a (Next.Done e)
-turns-away {L = L} told counts stands users pubs generation config most h marks now net a b client s e cause failed outcome k since state' sends by closed =
-    turns-before told counts stands users pubs generation config most h marks now net a b (IsRefused cause) (Next.Done e) k since (with-end failed (by w.rest w.ends))
+turns-away {L = L} told counts stands users pubs generation config most h marks now net a b client s e cause outcome k since state' sends by closed =
+    turns-before told counts stands users pubs generation config most h marks now net a b (IsRefused cause) (Next.Done e) k since (with-end (by w.rest w.ends))
   where
     t : Hearing
     t = hearing_of told counts users pubs generation config most h marks a b (IsRefused cause) k
@@ -177,10 +183,12 @@ turns-away {L = L} told counts stands users pubs generation config most h marks 
     clash : (told a.client).unfailing ≡ true → (told client).unfailing ≡ false → ⊥
     clash e1 e2 = let e3 : (told client).unfailing ≡ (told a.client).unfailing = ap (λ (z : Told). z.unfailing) w.told' in cc
 
-    with-end : (failed : Bool) → Closes told counts b client w.rest failed → Turns told counts stands (context_of t) (t.party).since net net (with_state a (before t)) (Next.Done e)
-    with-end true (Closes.done f none) = absurd (cc)
-    with-end false (Closes.failed' f some unsound rose) = absurd (cc)
-    with-end false (Closes.done f none) =
+    tried : (o : Sent) → outcome ≡ o → Tried (counts a.client) (counts client) ((t.x ≡ []) × (false ≡ false) × (false ≡ false)) (w.y ≡ []) (Unit {0}) (failed_sending o)
+    tried o is = subst (λ (z : Sent). Tried (counts a.client) (counts client) ((t.x ≡ []) × (false ≡ false) × (false ≡ false)) (w.y ≡ []) (Unit {0}) (failed_sending z)) is
+        (tried-as w.tried (λ x. (x, refl, refl)) (λ x. x.0) (λ x. tt))
+
+    with-end : Closes told counts b client w.rest outcome → Turns told counts stands (context_of t) (t.party).since net net (with_state a (before t)) (Next.Done e)
+    with-end (Closes.done is none) =
         turns-closed told counts stands t net a b' e w.y s.sent_c false false None false cause (stands-before told counts users pubs generation config most h marks a b (IsRefused cause) k) (record {
           closed = closed-uncaused stands h marks cause (with_link b s client) e (closed (ap is_udp w.is));
           state' = ap (λ (r : Record). let z : Record = record r { cause = None } in z) w.is;
@@ -206,10 +214,14 @@ turns-away {L = L} told counts stands users pubs generation config most h marks 
           at_end = λ e1. absurd (cc);
           first = first-away (told a.client) (told client) t.x w.y w.told' (told b.client) (k.hears).told' ((k.hears).first (k.stands).client_first);
           idle_c = λ e1. absurd (cc);
+          failed = None;
+          tried = tried Sent.All is;
+          fault_is = (refl, refl);
+          unwritten_is = refl;
           fails_c = λ e1. absurd (cc);
           unfailing = λ e1. (refl, refl);
         })
-    with-end true (Closes.failed' f some unsound rose) =
+    with-end (Closes.failed' is some unsound rose) =
         turns-closed told counts stands t net a b' e w.y s.sent_c false false (Some Object.Client) true cause (stands-before told counts users pubs generation config most h marks a b (IsRefused cause) k) (record {
           closed = closed-uncaused stands h marks cause (with_link b s client) e (closed (ap is_udp w.is));
           state' = ap (λ (r : Record). let z : Record = record r { cause = None } in z) w.is;
@@ -237,6 +249,10 @@ turns-away {L = L} told counts stands users pubs generation config most h marks 
           at_end = λ e1. absurd (cc);
           first = first-away (told a.client) (told client) t.x w.y w.told' (told b.client) (k.hears).told' ((k.hears).first (k.stands).client_first);
           idle_c = λ e1. absurd (cc);
+          failed = Some Kind.Write;
+          tried = tried Sent.Failed is;
+          fault_is = refl;
+          unwritten_is = refl;
           fails_c = λ e1. rose-before _ _ _ ((k.hears).later).faults rose;
           unfailing = λ e1. absurd (clash e1 unsound);
         })
@@ -303,6 +319,10 @@ waits-away told counts stands users pubs generation config most h marks now net 
       short = λ e1. absurd (cc);
       idle_c = λ e1. absurd (cc);
       full_c = λ e1. (w.ends.1, rose-before _ _ _ ((k.hears).later).idle_writes w.ends.2, short s.sent_c w.rest (owes_now t (Some cause)) w.all w.ends.0);
+      failed = None;
+      tried = tried-as w.tried (λ x. (x, refl, refl)) (λ x. x) (λ x. tt);
+      fault_is = (refl, refl);
+      unwritten_is = refl;
       fails_c = λ e1. absurd (cc);
       unfailing = λ e1. (refl, refl);
     }))

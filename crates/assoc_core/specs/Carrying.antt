@@ -1,6 +1,8 @@
 -- One direction of a relay in one turn: its source is read, and its sink is written and shut.
 use Rattle.std.specs.Prelude.{ℕ, ◌-◌, ◌≡◌, ◌<◌, ◌≤◌, nat_le, Bool, true, false, ◌||◌, ◌&&◌, not, if◌then◌else◌, Option, Some, None, List, [], ◌++◌, length, drop}
 use Rattle.net_ends.specs.Counts.{Counts, Later, Rose}
+use Rattle.net_ends.specs.Faults.{Tried}
+use Rattle.net_ends.specs.declared.kinds.Kind.{Kind}
 use Rattle.net_ends.specs.Told.{Told, more}
 use Rattle.socks_machine.specs.declared.record.Record.{Record}
 use Rattle.socks_machine.specs.declared.world.Object.{Object}
@@ -29,7 +31,16 @@ abbrev pub is_quantum : Take → Bool
 is_quantum Take.Quantum = true
 is_quantum _ = false
 
--- what was read of a source, and whether it ended
+abbrev pub is_idle : Take → Bool
+is_idle Take.NotYet = true
+is_idle _ = false
+
+-- the kind of the call on the source that failed
+abbrev pub failed_taking : Take → Option Kind
+failed_taking Take.Failed = Some Kind.Read
+failed_taking _ = None
+
+-- what was read of a source, and whether it ended; no read was made where it wasn't to be read
 pub record TakesPart (old new : Told) (counts counts' : Counts) (before after : List ℕ) (reads was ended : Bool) (take : Take) : Type 0 where
   pub part : List ℕ
   pub ends : Bool
@@ -40,6 +51,8 @@ pub record TakesPart (old new : Told) (counts counts' : Counts) (before after : 
   pub below : ends ≡ true → length part < quantum
   pub whole : nat_le quantum (length part) ≡ is_quantum take
   pub later : Later counts counts'
+  pub tried : Tried counts counts' ((after ≡ before) × (ends ≡ false) × (is_idle take ≡ false)) (Unit {0}) (Unit {0}) (failed_taking take)
+  pub still : reads ≡ false → (after ≡ before) × (ends ≡ false) × (take ≡ Take.Unread) × (counts' ≡ counts)
   pub why : TakeEnds new counts counts' part reads ended take
   pub behind : EndsBehind old → EndsBehind new
   pub first : GivesFirst old → GivesFirst new
@@ -52,6 +65,16 @@ GiveEnds told old new rest gives ends shut Give.Full = (0 < length rest) × IsFu
 GiveEnds told old new rest gives ends shut Give.Unwritten = (0 < length rest) × (told.unfailing ≡ false) × Rose old.faults new.faults
 GiveEnds told old new rest gives ends shut Give.Unshut =
     (rest ≡ []) × (ends ≡ true) × (shut ≡ false) × (told.unfailing ≡ false) × Rose old.faults new.faults
+
+abbrev pub is_full : Give → Bool
+is_full Give.Full = true
+is_full _ = false
+
+-- the kind of the call on the sink that failed
+abbrev pub failed_giving : Give → Option Kind
+failed_giving Give.Unwritten = Some Kind.Write
+failed_giving Give.Unshut = Some Kind.Shut
+failed_giving _ = None
 
 -- what of the pending bytes was sent to a sink, none where its writes take nothing, and whether it was shut
 pub record GivesPart (old new : Told) (counts counts' : Counts) (before after pending : List ℕ) (gives ends was shut : Bool) (give : Give) : Type 0 where
@@ -66,6 +89,7 @@ pub record GivesPart (old new : Told) (counts counts' : Counts) (before after pe
   pub once : shuts ≡ true → was ≡ false
   pub due : shuts ≡ true → (ends ≡ true) × (rest ≡ [])
   pub later : Later counts counts'
+  pub tried : Tried counts counts' (Unit {0}) ((after ≡ before) × (is_full give ≡ false)) (shuts ≡ false) (failed_giving give)
   pub why : GiveEnds new counts counts' rest gives ends shut give
 
 -- ---- reads and writes by turns
@@ -94,10 +118,20 @@ RoomEnds told old new rest waiting (Some Give.Full) = (pipe_size ≤ waiting) ×
 RoomEnds told old new rest waiting (Some Give.Unwritten) = (0 < length rest) × (told.unfailing ≡ false) × Rose old.faults new.faults
 RoomEnds told old new rest waiting (Some _) = ⊥
 
+-- the kind of the call that has stopped the sending by its failure
+abbrev pub failed_stop : Option Give → Option Kind
+failed_stop None = None
+failed_stop (Some give) = failed_giving give
+
+abbrev pub is_full_stop : Option Give → Bool
+is_full_stop None = false
+is_full_stop (Some give) = is_full give
+
 -- what was sent before a read
 pub record MakesRoom (old new : Told) (counts counts' : Counts) (front : List ℕ) (skip : ℕ) (text before after : List ℕ) (stopped : Option Give) : Type 0 where
   pub rest : List ℕ
   pub sends : SentOn old new counts counts' before after (drop (length before) (owed_of front skip text)) rest
+  pub tried : Tried counts counts' (Unit {0}) ((after ≡ before) × (is_full_stop stopped ≡ false)) (Unit {0}) (failed_stop stopped)
   pub why : RoomEnds new counts counts' rest (waiting_of front skip text (length after)) stopped
 
 abbrev pub is_held : Take → Bool
@@ -115,6 +149,7 @@ pub record TakesOn (source source' : Told) (counts counts' : Counts) (sink sink'
   pub takes : TakesPart source source' counts counts' before after reads was ended take
   pub rest : List ℕ
   pub sends : SentOn sink sink' sunk sunk' sent sent' (drop (length sent) (owed_of front skip after)) rest
+  pub tried : Tried sunk sunk' (Unit {0}) ((sent' ≡ sent) × (is_full_stop stopped ≡ false)) (Unit {0}) (failed_stop stopped)
   pub why : StopEnds sink' sunk sunk' rest (waiting_of front skip after (length sent')) take stopped
   pub room : takes.ends ≡ true → waiting_of front skip after (length sent') < pipe_size
 
@@ -173,32 +208,33 @@ pub record CarriesToClient (target target' : Told) (counts counts' : Counts) (cl
       old.end_t new.end_t old.shut_c new.shut_c take give
   pub is : new ≡ record old { t = new.t; end_t = new.end_t; sent_c = new.sent_c; shut_c = new.shut_c }
 
+-- behind the first failed call on a link no other is made
+abbrev pub first_failed : Option Kind → Option Kind → Option Kind
+first_failed None kind = kind
+first_failed (Some kind) _ = Some kind
+
 -- The client is read and the target is written and shut; then the target is read where no call on it failed, and the client is
 -- written, and shut where the target has ended. Where the client's read failed nothing more is done.
-pub record Passes (client client' target target' : Told) (counts counts' : Counts) (prelude : ℕ) (old new : Record) (pass : Pass) : Type 0 where
+pub record Passes (client client' target target' : Told) (counts counts' sunk sunk' : Counts) (prelude : ℕ) (old new : Record) (pass : Pass) : Type 0 where
   pub between_c : Told
   pub between_t : Told
   pub counts_c : Counts
-  pub counts_t : Counts × Counts × Counts
+  pub counts_t : Counts
   pub takes_c : TakesPart client between_c counts counts_c old.c new.c true old.end_c new.end_c pass.took_c
-  pub gives_t : GivesPart target between_t (counts_t.0) (counts_t.1) old.sent_t new.sent_t (drop (length old.sent_t) (drop prelude new.c)) (is_read pass.took_c) (has_ended pass.took_c) old.shut_t new.shut_t pass.gave_t
-  pub takes_t : TakesPart between_t target' (counts_t.1) (counts_t.2) old.t new.t (is_read pass.took_c && is_sound pass.gave_t) old.end_t new.end_t pass.took_t
+  pub gives_t : GivesPart target between_t sunk counts_t old.sent_t new.sent_t (drop (length old.sent_t) (drop prelude new.c)) (is_read pass.took_c) (has_ended pass.took_c) old.shut_t new.shut_t pass.gave_t
+  pub takes_t : TakesPart between_t target' counts_t sunk' old.t new.t (is_read pass.took_c && is_sound pass.gave_t) old.end_t new.end_t pass.took_t
   pub gives_c : GivesPart between_c client' counts_c counts' old.sent_c new.sent_c (drop (length old.sent_c) (owed_of (replies_by new.c old.chosen old.cause (reached_at old.decisions)) 0 new.t)) (is_read pass.took_c)
       (has_ended pass.took_t) old.shut_c new.shut_c pass.gave_c
   pub room_c : takes_c.ends ≡ true → waiting_of [] prelude new.c (length new.sent_t) < pipe_size
   pub held_c : is_held pass.took_c ≡ true → IsHeldBy (waiting_of [] prelude new.c (length new.sent_t)) pass.gave_t
   pub room_t : takes_t.ends ≡ true → waiting_of (replies_by new.c old.chosen old.cause (reached_at old.decisions)) 0 new.t (length new.sent_c) < pipe_size
   pub held_t : is_held pass.took_t ≡ true → IsHeldBy (waiting_of (replies_by new.c old.chosen old.cause (reached_at old.decisions)) 0 new.t (length new.sent_c)) pass.gave_c
+  pub tried_c : Tried counts counts' ((new.c ≡ old.c) × (takes_c.ends ≡ false) × (is_idle pass.took_c ≡ false)) ((new.sent_c ≡ old.sent_c) × (is_full pass.gave_c ≡ false)) (gives_c.shuts ≡ false)
+      (first_failed (failed_taking pass.took_c) (failed_giving pass.gave_c))
+  pub tried_t : Tried sunk sunk' ((new.t ≡ old.t) × (takes_t.ends ≡ false) × (is_idle pass.took_t ≡ false)) ((new.sent_t ≡ old.sent_t) × (is_full pass.gave_t ≡ false)) (gives_t.shuts ≡ false)
+      (first_failed (failed_giving pass.gave_t) (failed_taking pass.took_t))
   pub held : pass.took_c ≡ Take.Failed → (pass.gave_t ≡ Give.Held) × (pass.took_t ≡ Take.Unread) × (pass.gave_c ≡ Give.Held)
   pub is : new ≡ record old { c = new.c; t = new.t; end_c = new.end_c; end_t = new.end_t; sent_c = new.sent_c; sent_t = new.sent_t; shut_c = new.shut_c; shut_t = new.shut_t }
-
-abbrev pub is_idle : Take → Bool
-is_idle Take.NotYet = true
-is_idle _ = false
-
-abbrev pub is_full : Give → Bool
-is_full Give.Full = true
-is_full _ = false
 
 abbrev pub is_unwritten : Give → Bool
 is_unwritten Give.Unwritten = true

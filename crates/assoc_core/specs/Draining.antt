@@ -13,13 +13,11 @@ pub record SendsClient (old new : Told) (counts counts' : Counts) (before after 
   pub is : after ≡ record before { sent_c = after.sent_c; shut_c = after.shut_c }
 
 -- what is pending was sent to a target that is there
-pub record SendsLink (old new : Told) (before after : Record) (give : Give) : Type 0 where
-  pub counts : Counts
-  pub counts' : Counts
+pub record SendsLink (old new : Told) (counts counts' : Counts) (before after : Record) (give : Give) : Type 0 where
   pub gives : GivesPart old new counts counts' before.sent_t after.sent_t (drop (length before.sent_t) (drop (prelude_of before) before.c)) true false before.shut_t after.shut_t give
   pub is : after ≡ record before { sent_t = after.sent_t; shut_t = after.shut_t }
 
-abbrev pub SendsTarget : {L : Type 0} → (L → Told) → Option L → Option L → Record → Record → Give → Type 0
-SendsTarget told None None before after give = (after ≡ before) × (give ≡ Give.Held)
-SendsTarget told (Some old) (Some new) before after give = SendsLink (told old) (told new) before after give
-SendsTarget told _ _ before after give = ⊥
+abbrev pub SendsTarget : {L : Type 0} → (L → Told) → (L → Counts) → Option L → Option L → Record → Record → Give → Type 0
+SendsTarget told counts None None before after give = (after ≡ before) × (give ≡ Give.Held)
+SendsTarget told counts (Some old) (Some new) before after give = SendsLink (told old) (told new) (counts old) (counts new) before after give
+SendsTarget told counts _ _ before after give = ⊥

@@ -7,6 +7,8 @@ use Rattle.conf_model.specs.Plain.{IsPlain}
 use Rattle.handshake_core.specs.Answers.{request_in}
 use Rattle.handshake_core.specs.Taking.{refusal_of}
 use Rattle.net_ends.specs.Counts.{Counts, Later, Rose}
+use Rattle.net_ends.specs.Faults.{Tried}
+use Rattle.net_ends.specs.declared.kinds.Kind.{Kind}
 use Rattle.net_ends.specs.Told.{Told, Arrival, more}
 use Rattle.rule_list.specs.Rules.{numbered}
 use Rattle.socks_machine.specs.declared.record.Chosen.{Chosen}
@@ -23,6 +25,15 @@ use Rattle.assoc_core.specs.Turns.{IsIdle}
 abbrev pub is_end : Heard → Bool
 is_end Heard.End = true
 is_end _ = false
+
+abbrev pub is_idle : Heard → Bool
+is_idle Heard.NotYet = true
+is_idle _ = false
+
+-- the kind of the call that failed
+abbrev pub failed_hearing : Heard → Option Kind
+failed_hearing Heard.Failed = Some Kind.Read
+failed_hearing _ = None
 
 -- its end stands behind all that arrived
 abbrev pub IsAtEnd : Told → Type 0
@@ -50,6 +61,7 @@ pub record Hears (old new : Told) (counts counts' : Counts) (before after : List
   pub told' : new ≡ record old { given = more old.given bytes; ended = is_end heard || old.ended }
   pub first : GivesFirst old → GivesFirst new
   pub later : Later counts counts'
+  pub tried : Tried counts counts' ((after ≡ before) × (is_end heard ≡ false) × (is_idle heard ≡ false)) (Unit {0}) (Unit {0}) (failed_hearing heard)
   pub ends : HearingEnds new counts counts' heard
 
 -- b is a with what was heard of its client, which was let in and had no cause; nothing is heard where its name was looked up

@@ -1,8 +1,9 @@
 -- A granted destination that was dialled.
-use Rattle.std.specs.Prelude.{ℕ, ◌≡◌, ◌<◌, Bool, true, length, drop, Option, Some, None, List, [], ◌∷◌, ◌++◌}
+use Rattle.std.specs.Prelude.{ℕ, ◌≡◌, ◌<◌, Bool, true, false, length, drop, Option, Some, None, List, [], ◌∷◌, ◌++◌}
 use Rattle.addr_pattern.specs.declared.endpoint.Endpoint.{Endpoint}
 use Rattle.net_ends.specs.Nets.{DialOutcome, NetTold, Plan, SameLookups, dialled}
 use Rattle.net_ends.specs.Counts.{Counts, Later, Rose}
+use Rattle.net_ends.specs.Faults.{Tried}
 use Rattle.net_ends.specs.Told.{Told, IsFresh, more}
 use Rattle.rule_list.specs.declared.facts.Facts.{Facts}
 use Rattle.rule_list.specs.declared.verdict.Verdict.{Verdict}
@@ -45,9 +46,10 @@ pub record HasDialled {L : Type 0} (told : L → Told) (basis : Basis) (net net'
   pub kept : at_of outcome ≡ None → net'.plan ≡ net.plan
 
 -- the link that came up
-pub record IsNewLink (told : Told) (net : NetTold) : Type 0 where
+pub record IsNewLink (told : Told) (counts : Counts) (net : NetTold) : Type 0 where
   pub fresh : IsFresh told
   pub planned : (plan : Plan) → net.plan ≡ Some plan → told ≡ plan.link
+  pub due' : (plan : Plan) → net.plan ≡ Some plan → counts.due ≡ plan.due
 
 -- z is b with a part of what was pending written to its client
 pub record HasGreeted {L : Type 0} (told : L → Told) (counts : L → Counts) (b z : Assoc L) (full : Bool) : Type 0 where
@@ -59,4 +61,5 @@ pub record HasGreeted {L : Type 0} (told : L → Told) (counts : L → Counts) (
   pub told' : told z.client ≡ (let t = told b.client in record t { taken = more t.taken bytes })
   pub stuck : (told b.client).room ≡ Some 0 → bytes ≡ []
   pub later : Later (counts b.client) (counts z.client)
+  pub tried : Tried (counts b.client) (counts z.client) (Unit {0}) (((z.state).sent_c ≡ (b.state).sent_c) × (full ≡ false)) (Unit {0}) None
   pub full' : full ≡ true → (0 < length rest) × IsFull (told z.client) × Rose (counts b.client).idle_writes (counts z.client).idle_writes

@@ -1,6 +1,8 @@
 -- What a sending of pending bytes comes to.
-use Rattle.std.specs.Prelude.{ℕ, ◌≡◌, ◌<◌, Bool, true, false, Option, Some, List, [], ◌++◌, drop, length}
+use Rattle.std.specs.Prelude.{ℕ, ◌≡◌, ◌<◌, Bool, true, false, Option, Some, None, List, [], ◌++◌, drop, length}
 use Rattle.net_ends.specs.Counts.{Counts, Later, Rose}
+use Rattle.net_ends.specs.Faults.{Tried}
+use Rattle.net_ends.specs.declared.kinds.Kind.{Kind}
 use Rattle.net_ends.specs.Told.{Told, more}
 use Rattle.socks_machine.specs.declared.cause.Cause.{Cause}
 use Rattle.socks_machine.specs.Settle.{first_cause}
@@ -17,6 +19,15 @@ SendEnds told old new rest All = rest ≡ []
 SendEnds told old new rest Full = (0 < length rest) × IsFull told × Rose old.idle_writes new.idle_writes
 SendEnds told old new rest Failed = (0 < length rest) × (told.unfailing ≡ false) × Rose old.faults new.faults
 
+abbrev pub is_full : Sent → Bool
+is_full Full = true
+is_full _ = false
+
+-- the kind of the call that failed
+abbrev pub failed_sending : Sent → Option Kind
+failed_sending Failed = Some Kind.Write
+failed_sending _ = None
+
 -- the link took the first bytes of what was pending, and they were added to what was sent; one whose writes take nothing took none
 pub record Sends (old new : Told) (counts counts' : Counts) (before after pending : List ℕ) (outcome : Sent) : Type 0 where
   pub bytes : List ℕ
@@ -26,13 +37,10 @@ pub record Sends (old new : Told) (counts counts' : Counts) (before after pendin
   pub told' : new ≡ record old { taken = more old.taken bytes }
   pub stuck : old.room ≡ Some 0 → bytes ≡ []
   pub later : Later counts counts'
+  pub tried : Tried counts counts' (Unit {0}) ((after ≡ before) × (is_full outcome ≡ false)) (Unit {0}) (failed_sending outcome)
   pub ends : SendEnds new counts counts' rest outcome
 
 -- ---- behind an outer call
-
-abbrev pub is_full : Sent → Bool
-is_full Full = true
-is_full _ = false
 
 abbrev pub is_failed : Sent → Bool
 is_failed Failed = true

@@ -1,9 +1,11 @@
 -- What one turn comes to.
-use Rattle.std.specs.Prelude.{ℕ, ◌+◌, ◌≡◌, ◌≢◌, ◌<◌, ◌≤◌, Bool, true, false, Option, Some, None, List, [], ◌∷◌, ◌++◌, length, is_some}
+use Rattle.std.specs.Prelude.{ℕ, ◌+◌, ◌≡◌, ◌≢◌, ◌<◌, ◌≤◌, Bool, true, false, ◌||◌, Option, Some, None, List, [], ◌∷◌, ◌++◌, length, is_some}
 use Rattle.conf_model.specs.declared.config.Config.{Config}
 use Rattle.conf_model.specs.declared.protocol.Command.{Command}
 use Rattle.conf_model.specs.declared.user.User.{User}
 use Rattle.net_ends.specs.Counts.{Counts, Rose}
+use Rattle.net_ends.specs.Faults.{Tried}
+use Rattle.net_ends.specs.declared.kinds.Kind.{Kind}
 use Rattle.net_ends.specs.declared.net.Lookup.{Lookup}
 use Rattle.net_ends.specs.Nets.{Dial, DialOutcome, LookedUp, NetTold, Plan, dialled, looked_up}
 use Rattle.net_ends.specs.Told.{Told, Arrival}
@@ -180,6 +182,26 @@ abbrev pub IsThereAnd : {L : Type 0} → Option L → (L → Type 0) → Type 0
 IsThereAnd None p = ⊥
 IsThereAnd (Some link) p = p link
 
+-- Calls on the target's link, where one is there: from those counts of its own, or from those with which it came up, of which
+-- the plan told what was due to fail.
+abbrev pub TriedTarget : {L : Type 0} → (L → Counts) → NetTold → Option L → Option L → Type 0 → Type 0 → Type 0 → Option Kind → Type 0
+TriedTarget counts net None None Reads Writes Shuts failed = (failed ≡ None) × Reads × Writes × Shuts
+TriedTarget counts net (Some old) (Some new) Reads Writes Shuts failed = Tried (counts old) (counts new) Reads Writes Shuts failed
+TriedTarget counts net None (Some new) Reads Writes Shuts failed =
+    (first : Counts) × ((plan : Plan) → net.plan ≡ Some plan → first.due ≡ plan.due) × Tried first (counts new) Reads Writes Shuts failed
+TriedTarget counts net (Some old) None Reads Writes Shuts failed = ⊥
+
+-- the object whose call failed first, by the kinds of those that failed on the client's link and on the target's
+abbrev pub FaultIs : Option Object → Option Kind → Option Kind → Type 0
+FaultIs None failed_c failed_t = (failed_c ≡ None) × (failed_t ≡ None)
+FaultIs (Some Object.Client) failed_c failed_t = is_some failed_c ≡ true
+FaultIs (Some Object.Target) failed_c failed_t = is_some failed_t ≡ true
+FaultIs (Some _) failed_c failed_t = ⊥
+
+abbrev pub is_write : Option Kind → Bool
+is_write (Some Kind.Write) = true
+is_write _ = false
+
 -- why nothing more was read of a side: it has ended, or answered NotYet, a quantum was taken, a call failed, as many bytes of
 -- it wait in a relay as a pipe holds, or the phase behind all that was taken, but for the ends, doesn't read it
 pub data StopsReading (was ends idle : Bool) (part : List ℕ) (fault : Option Object) (Filled Unread : Type 0) : Type 0 where
@@ -268,6 +290,13 @@ pub record Turns {L : Type 0} (told : L → Told) (counts : L → Counts) (stand
   pub full_t : acts.full_t ≡ true → IsThereAnd (left_of next).target (λ link. IsFull (told link)) × (length result.left.sent_t < length (owed_t result.left))
   pub room_c : (told a.client).room ≡ Some 0 → acts.sent_c ≡ 0
   pub room_t : TakesNothing told net a.target → acts.sent_t ≡ 0
+  -- which calls failed
+  pub failed_c : Option Kind
+  pub failed_t : Option Kind
+  pub tried_c : Tried (counts a.client) (counts (left_of next).client) ((acts.c ≡ []) × (acts.end_c ≡ false) × (acts.idle_c ≡ false)) ((acts.sent_c ≡ 0) × (acts.full_c ≡ false)) (acts.shut_c ≡ false) failed_c
+  pub tried_t : TriedTarget counts net a.target (left_of next).target ((acts.t ≡ []) × (acts.end_t ≡ false) × (acts.idle_t ≡ false)) ((acts.sent_t ≡ 0) × (acts.full_t ≡ false)) (acts.shut_t ≡ false) failed_t
+  pub fault_is : FaultIs acts.fault failed_c failed_t
+  pub unwritten_is : acts.unwritten ≡ is_write failed_c || is_write failed_t
   pub fails_c : acts.fault ≡ Some Object.Client → Rose (counts a.client).faults (counts (left_of next).client).faults
   pub unfailing : (told a.client).unfailing ≡ true → IsUnfailing told net a.target → (acts.fault ≡ None) × (acts.unwritten ≡ false)
 

@@ -47,7 +47,7 @@ fn send_to_target<L: Link + Drop>(
     state: &mut Record,
     target: &mut Option<L>,
 ) -> Result<Give, AllocError>
-    ensures { IfOk result (λ give. SendsTarget L.told target.old target.new state.old state.new give) }
+    ensures { IfOk result (λ give. SendsTarget L.told L.counts target.old target.new state.old state.new give) }
 {
     let Some(link) = target else {
         return Ok(Give::Held);

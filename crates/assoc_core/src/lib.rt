@@ -21,6 +21,7 @@ mod replies;
 mod seek;
 mod send;
 mod talk;
+mod totals;
 
 pub use assoc::{Assoc, Ended, Next, OpenFault};
 pub use one_turn::{Course, turn};

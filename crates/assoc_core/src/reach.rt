@@ -57,7 +57,7 @@ fn send_to_target<L: Link>(
 impl<L: Link + Drop> Assoc<L> {
     /// The target is reached: the reply of success is written, and what the client has sent behind its prelude.
     fn greet(mut self, alloc: Global, link: L) -> Result<Next<L>, AllocError>
-        ensures { IfOk result (λ next. (users : List User) (pubs : List Config) (generation : ℕ) (config : Config) (cap : ℕ) (h : List Line) (marks : List StopBy) (net net' : NetTold) (now : ℕ) (a : Assoc L) (local : Endpoint) → HasDialled L.told (socks users pubs) net net' now a self (DialOutcome.CameUp local) → IsNewLink (L.told link) net → Turns L.told L.counts (SameDesk h marks) (context users pubs generation config cap h marks) now net net' a next) }
+        ensures { IfOk result (λ next. (users : List User) (pubs : List Config) (generation : ℕ) (config : Config) (cap : ℕ) (h : List Line) (marks : List StopBy) (net net' : NetTold) (now : ℕ) (a : Assoc L) (local : Endpoint) → HasDialled L.told (socks users pubs) net net' now a self (DialOutcome.CameUp local) → IsNewLink (L.told link) (L.counts link) net → Turns L.told L.counts (SameDesk h marks) (context users pubs generation config cap h marks) now net net' a next) }
     {
         match send_to_client(alloc, &mut self.state, &mut self.client)? {
             Sent::All => self.send_payload(alloc, link),
@@ -72,7 +72,7 @@ impl<L: Link + Drop> Assoc<L> {
 
     /// What the client has sent behind its prelude is written to a new target.
     fn send_payload(mut self, alloc: Global, mut link: L) -> Result<Next<L>, AllocError>
-        ensures { IfOk result (λ next. (users : List User) (pubs : List Config) (generation : ℕ) (config : Config) (cap : ℕ) (h : List Line) (marks : List StopBy) (net net' : NetTold) (now : ℕ) (a b : Assoc L) (local : Endpoint) (full : Bool) → HasDialled L.told (socks users pubs) net net' now a b (DialOutcome.CameUp local) → IsNewLink (L.told link) net → HasGreeted L.told L.counts b self full → Turns L.told L.counts (SameDesk h marks) (context users pubs generation config cap h marks) now net net' a next) }
+        ensures { IfOk result (λ next. (users : List User) (pubs : List Config) (generation : ℕ) (config : Config) (cap : ℕ) (h : List Line) (marks : List StopBy) (net net' : NetTold) (now : ℕ) (a b : Assoc L) (local : Endpoint) (full : Bool) → HasDialled L.told (socks users pubs) net net' now a b (DialOutcome.CameUp local) → IsNewLink (L.told link) (L.counts link) net → HasGreeted L.told L.counts b self full → Turns L.told L.counts (SameDesk h marks) (context users pubs generation config cap h marks) now net net' a next) }
     {
         match send_to_target(alloc, &mut self.state, &mut link)? {
             Sent::All => {

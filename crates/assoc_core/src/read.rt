@@ -1,5 +1,6 @@
 ghost use Rattle.std.specs.Prelude.{◌<◌, IfOk};
 ghost use Rattle.net_ends.specs.Counts.{Later, ReadCause};
+ghost use Rattle.net_ends.specs.Faults.{ReadTried};
 ghost use Rattle.net_ends.specs.Told.{GivesArrived};
 ghost use Rattle.assoc_core.specs.Reads.{ReadsMore, reading_of};
 
@@ -33,6 +34,7 @@ pub fn read_more<L: Link>(
     ensures arrived { IfOk result (λ answer. GivesArrived (L.told link.new) (reading_of answer)) }
     ensures later { IfOk result (λ answer. Later (L.counts link.old) (L.counts link.new)) }
     ensures cause { IfOk result (λ answer. ReadCause (L.counts link.old) (L.counts link.new) (reading_of answer)) }
+    ensures tried { IfOk result (λ answer. ReadTried (L.counts link.old) (L.counts link.new) (reading_of answer)) }
 {
     let mut held = mem::replace(text, Text::make(alloc)).into_vec();
     if held.reserve(PIECE).is_err() {

@@ -141,7 +141,7 @@ fn carry_both<L: Link>(
     client: &mut L,
     target: &mut L,
 ) -> Result<Pass, AllocError>
-    ensures { IfOk result (λ pass. Passes (L.told client.old) (L.told client.new) (L.told target.old) (L.told target.new) (L.counts client.old) (L.counts client.new) (prelude_of state.old) state.old state.new pass) }
+    ensures { IfOk result (λ pass. Passes (L.told client.old) (L.told client.new) (L.told target.old) (L.told target.new) (L.counts client.old) (L.counts client.new) (L.counts target.old) (L.counts target.new) (prelude_of state.old) state.old state.new pass) }
 {
     let (took_c, gave_t) = carry_to_target(alloc, state, client, target)?;
     if let Take::Failed = took_c {

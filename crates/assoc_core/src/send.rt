@@ -1,7 +1,8 @@
-ghost use Rattle.std.specs.Prelude.{◌≡◌, ◌≤◌, Some, length, take, drop, IfOk};
+ghost use Rattle.std.specs.Prelude.{◌≡◌, ◌≤◌, Some, false, length, take, drop, IfOk};
 ghost use Rattle.net_ends.specs.Told.{more};
 ghost use Rattle.net_ends.specs.Counts.{Later};
-ghost use Rattle.assoc_core.specs.Sending.{SendEnds, Sends};
+ghost use Rattle.net_ends.specs.Faults.{Tried};
+ghost use Rattle.assoc_core.specs.Sending.{SendEnds, Sends, failed_sending, is_full};
 
 use conf_text::Text;
 use net_ends::{Link, Writing};
@@ -22,6 +23,7 @@ pub fn send_all<L: Link>(link: &mut L, bytes: &[u8]) -> (usize, Sent)
     ensures told { L.told link.new ≡ record (L.told link.old) { taken = more (L.told link.old).taken (take result.0 bytes.now) } }
     ensures stuck { (L.told link.old).room ≡ Some 0 → result.0 ≡ 0 }
     ensures later { Later (L.counts link.old) (L.counts link.new) }
+    ensures tried { Tried (L.counts link.old) (L.counts link.new) (Unit {0}) ((result.0 ≡ 0) × (is_full result.1 ≡ false)) (Unit {0}) (failed_sending result.1) }
     ensures ends { SendEnds (L.told link.new) (L.counts link.old) (L.counts link.new) (drop result.0 bytes.now) result.1 }
 {
     let mut at = 0;

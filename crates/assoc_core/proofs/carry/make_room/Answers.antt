@@ -8,7 +8,7 @@ pub returns-in-Failed : goal.returns-in-Failed
 returns-in-Failed g c = room-failed _ _ _ _ _ _ _ _ _ (rw c.in-Failed.is at c.in_ok-outcome.ensures)
 
 pub returns-then-waiting-lt-PIPE-2 : goal.returns-then-waiting-lt-PIPE-2
-returns-then-waiting-lt-PIPE-2 g c = room-made _ _ _ _ _ _ _ _ _ _ c.in_ok-outcome.ensures (few-wait c.args.due.now.front c.args.due.now.skip c.args.text.now _ _ _ c.waiting-2.ensures c.len-2.ensures c.if-waiting-lt-PIPE-2.true)
+returns-then-waiting-lt-PIPE-2 g c = room-made _ _ _ _ _ _ _ _ _ _ c.in_ok-outcome.ensures c.in_default.not-Failed (few-wait c.args.due.now.front c.args.due.now.skip c.args.text.now _ _ _ c.waiting-2.ensures c.len-2.ensures c.if-waiting-lt-PIPE-2.true)
 
 pub returns : goal.returns
 returns g c = room-full _ _ _ _ _ _ _ _ _ _ c.in_ok-outcome.ensures c.in_default.not-Failed (many-wait c.args.due.now.front c.args.due.now.skip c.args.text.now _ _ _ c.waiting-2.ensures c.len-2.ensures c.if-waiting-lt-PIPE-2.false)

@@ -1,5 +1,6 @@
-use Rattle.std.proofs.Common.{◌<◌, ◌+◌, ◌-◌, length}
+use Rattle.std.proofs.Common.{◌<◌, ◌+◌, ◌-◌, ◌≡◌, None, length}
 use Rattle.net_ends.specs.Counts.{Later}
+use Rattle.net_ends.specs.Faults.{Tried}
 use Rattle.socks_machine.specs.Turn.{quantum}
 use Rattle.assoc_core.specs.Reads.{Comes}
 use Rattle.assoc_core.specs.Stands.{GivesFirst}
@@ -13,6 +14,7 @@ invariant-reading g l = record {
   taken' : HasTaken l.methods l.users l.text l.taken l.handshake;
   first : GivesFirst (g.L.Link.told l.initial.link) → GivesFirst (g.L.Link.told l.link);
   later : Later (g.L.Link.counts l.initial.link) (g.L.Link.counts l.link);
+  tried : Tried (g.L.Link.counts l.initial.link) (g.L.Link.counts l.link) (l.text ≡ l.initial.text) (Unit {0}) (Unit {0}) None;
 }
 
 abbrev pub decreases-reading : goal.decreases-reading

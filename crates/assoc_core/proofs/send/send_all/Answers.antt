@@ -1,7 +1,8 @@
-use Rattle.std.proofs.Common.{◌≡◌, ℕ, ◌-◌, List, length, take, drop, ap, ◌∙◌, arith}
+use Rattle.std.proofs.Common.{◌≡◌, ℕ, ◌-◌, List, length, take, drop, ap, ◌∙◌, refl, arith}
 use Rattle.std.proofs.lemmas.Grind.{common_steps}
 use Rattle.net_ends.specs.Told.{Told, more}
-use Rattle.assoc_core.proofs.Sendings.{takes-on, later-on}
+use Rattle.assoc_core.proofs.Sendings.{takes-on, takes-none, later-on, later-same}
+use Rattle.assoc_core.proofs.Tryings.{tried-on, tried-none}
 use Rattle.assoc_core.proofs.send.send_all.Goals as goal
 
 pub loop-at-preserved : goal.loop-at-preserved
@@ -13,4 +14,20 @@ loop-at-preserved g c =
           (c.in-Took.ensures.told ∙ ap (λ (z : List ℕ). let t : Told = record (g.L.Link.told c.loop-at.link) { taken = more (g.L.Link.told c.loop-at.link).taken z } in t) same);
       stuck = λ e. absurd (omega (arith, c.in-Took.ensures.answer.0, c.in-Took.ensures.answer.2 0 (ap (λ (z : Told). z.room) c.loop-at.invariant.told ∙ e)));
       later = later-on _ _ _ c.loop-at.invariant.later c.write.ensures.later;
+      tried = tried-on c.loop-at.invariant.tried (rw c.in-Took.is at c.write.ensures.tried) (λ x y. y) (λ x y. absurd y) (λ x y. y);
     }
+
+pub loop-at-init : goal.loop-at-init
+loop-at-init g c = record {
+  within = omega arith;
+  told = takes-none (g.L.Link.told c.args.link.now) c.args.bytes.now;
+  stuck = λ e. refl;
+  later = later-same (g.L.Link.counts c.args.link.now);
+  tried = tried-none (g.L.Link.counts c.args.link.now) tt refl tt;
+}
+
+pub returns-in-NotYet-clause-tried : goal.returns-in-NotYet-clause-tried
+returns-in-NotYet-clause-tried g c = tried-on c.loop-at.invariant.tried (rw c.in-NotYet.is at c.write.ensures.tried) (λ x y. y) (λ x y. absurd y) (λ x y. y)
+
+pub returns-in-Failed-clause-tried : goal.returns-in-Failed-clause-tried
+returns-in-Failed-clause-tried g c = tried-on c.loop-at.invariant.tried (rw c.in-Failed.is at c.write.ensures.tried) (λ x y. y) (λ x y. (x, refl)) (λ x y. y)

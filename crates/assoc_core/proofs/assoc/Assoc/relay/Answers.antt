@@ -15,7 +15,7 @@ returns-in_default-clause-turns g c = λ users pubs generation config now net h 
 pub returns-then-is_shut-clause-turns : goal.returns-then-is_shut-clause-turns
 returns-then-is_shut-clause-turns g c = λ users pubs generation config now net h marks at desked stands same reaches uncaused.
     let mid : Assoc g.row.L.Denot = record { state = c.carry_both.new.state; client = c.carry_both.new.client; target = Some c.carry_both.new.target } in
-    let closed : Closed (g.D.DeskCall.stands c.finish.new.desk) h marks Cause.Finished mid c.finish.result = c.finish.ensures.closed h marks desked (mid-tcp users c.args.self.state mid.state _ _ _ _ _ _ c.in_ok-pass.pass stands.plain c.in_ok-pass.ensures) in
+    let closed : Closed (g.D.DeskCall.stands c.finish.new.desk) h marks Cause.Finished mid c.finish.result = c.finish.ensures.closed h marks desked (mid-tcp users c.args.self.state mid.state _ _ _ _ _ _ _ _ c.in_ok-pass.pass stands.plain c.in_ok-pass.ensures) in
     let none = sym c.fault_of.ensures ∙ ap (option_map object_of) c.in-None.is in
     let shut = both-shut c.carry_both.new.state.shut_c c.carry_both.new.state.shut_t (sym c.is_shut.ensures ∙ c.if-is_shut.true) in
     relay-finishes g.L.Link.told g.L.Link.counts (g.D.DeskCall.stands c.finish.new.desk) users pubs generation config (g.D.DeskCall.cap c.args.desk.now) h marks now net c.args.self mid c.finish.result c.in_ok-pass.pass
@@ -39,7 +39,7 @@ returns-else-took_quantum-clause-turns g c = λ users pubs generation config now
 pub returns-in-Some-Client-clause-turns : goal.returns-in-Some-Client-clause-turns
 returns-in-Some-Client-clause-turns g c = λ users pubs generation config now net h marks at desked stands same reaches uncaused.
     let mid : Assoc g.row.L.Denot = record { state = c.carry_both.new.state; client = c.carry_both.new.client; target = Some c.carry_both.new.target } in
-    let closed : Closed (g.D.DeskCall.stands c.finish-in-Some-Client.new.desk) h marks Cause.ClientFault mid c.finish-in-Some-Client.result = c.finish-in-Some-Client.ensures.closed h marks desked (mid-tcp users c.args.self.state mid.state _ _ _ _ _ _ c.in_ok-pass.pass stands.plain c.in_ok-pass.ensures) in
+    let closed : Closed (g.D.DeskCall.stands c.finish-in-Some-Client.new.desk) h marks Cause.ClientFault mid c.finish-in-Some-Client.result = c.finish-in-Some-Client.ensures.closed h marks desked (mid-tcp users c.args.self.state mid.state _ _ _ _ _ _ _ _ c.in_ok-pass.pass stands.plain c.in_ok-pass.ensures) in
     client-closes g.L.Link.told g.L.Link.counts (g.D.DeskCall.stands c.finish-in-Some-Client.new.desk) users pubs generation config (g.D.DeskCall.cap c.args.desk.now) h marks now net c.args.self mid c.finish-in-Some-Client.result c.in_ok-pass.pass
     (done-turn g.L.Link.told g.L.Link.counts c.args.self mid c.finish-in-Some-Client.result c.in-Some.target c.carry_both.new.target at c.in_ok-pass.pass stands (record { plain = stands.plain; reaches = reaches; uncaused = uncaused; direct = stands.direct.direct }) c.in-Some.is refl c.in_ok-pass.ensures closed.client closed.target)
     (sym c.fault_of.ensures ∙ ap (option_map object_of) (c.in-Some-Client.is ∙ ap (λ (z : Side). Some z) c.in-Some-Client.field-0-is)) refl closed same
@@ -47,7 +47,7 @@ returns-in-Some-Client-clause-turns g c = λ users pubs generation config now ne
 pub returns-then-is_over-clause-turns : goal.returns-then-is_over-clause-turns
 returns-then-is_over-clause-turns g c = λ users pubs generation config now net h marks at desked stands same reaches uncaused.
     let mid : Assoc g.row.L.Denot = record { state = c.carry_both.new.state; client = c.carry_both.new.client; target = Some c.carry_both.new.target } in
-    let closed : Closed (g.D.DeskCall.stands c.finish-then-is_over.new.desk) h marks Cause.TargetFault mid c.finish-then-is_over.result = c.finish-then-is_over.ensures.closed h marks desked (mid-tcp users c.args.self.state mid.state _ _ _ _ _ _ c.in_ok-pass.pass stands.plain c.in_ok-pass.ensures) in
+    let closed : Closed (g.D.DeskCall.stands c.finish-then-is_over.new.desk) h marks Cause.TargetFault mid c.finish-then-is_over.result = c.finish-then-is_over.ensures.closed h marks desked (mid-tcp users c.args.self.state mid.state _ _ _ _ _ _ _ _ c.in_ok-pass.pass stands.plain c.in_ok-pass.ensures) in
     let failed = sym c.fault_of.ensures ∙ ap (option_map object_of) (c.in-Some-Target.is ∙ ap (λ (z : Side). Some z) c.in-Some-Target.field-0-is) in
     fault-closes g.L.Link.told g.L.Link.counts (g.D.DeskCall.stands c.finish-then-is_over.new.desk) users pubs generation config (g.D.DeskCall.cap c.args.desk.now) h marks now net c.args.self mid c.finish-then-is_over.result c.in_ok-pass.pass
     (done-turn g.L.Link.told g.L.Link.counts c.args.self mid c.finish-then-is_over.result c.in-Some.target c.carry_both.new.target at c.in_ok-pass.pass stands (record { plain = stands.plain; reaches = reaches; uncaused = uncaused; direct = stands.direct.direct }) c.in-Some.is refl c.in_ok-pass.ensures closed.client closed.target)
