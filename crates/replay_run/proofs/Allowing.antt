@@ -22,11 +22,11 @@ use Rattle.socks_machine.specs.declared.world.TurnEvent.{TurnEvent}
 use Rattle.socks_machine.specs.declared.world.World.{World}
 use Rattle.socks_machine.specs.Basis.{Basis}
 use Rattle.socks_machine.specs.Calls.{Context}
-use Rattle.socks_machine.specs.Follows.{Failing, Allows, OuterFits, OuterIs, FaultsAre, EndFits, ComesToEnd, Meets, packet}
+use Rattle.socks_machine.specs.Follows.{Allows, OuterFits, OuterIs, FaultsAre, EndFits, ComesToEnd, Meets, packet}
 use Rattle.socks_machine.specs.History.{last_mark}
 use Rattle.rule_list.specs.Rules.{numbered}
 use Rattle.socks_machine.specs.Phase.{Phase, phase}
-use Rattle.socks_machine.specs.Script.{Outside, Surroundings, behind_turn, did, reached_as}
+use Rattle.socks_machine.specs.Script.{Outside, Surroundings, behind_turn, reached_as}
 use Rattle.socks_machine.specs.Step.{basis_of, step}
 use Rattle.socks_machine.specs.Taking.{holds, some_in, of_generation, reads_client, reads_target, reads_port, taken, with_client_bytes, pipe_size, ◌>>=◌}
 use Rattle.socks_machine.specs.Decisions.{Grant, Reaching, reached}
@@ -43,8 +43,9 @@ use Rattle.assoc_core.specs.declared.assoc.Assoc.{Assoc}
 use Rattle.assoc_core.specs.declared.assoc.Next.{Next}
 use Rattle.assoc_core.specs.Plain.{owed_c, owed_t, prelude_of}
 use Rattle.assoc_core.specs.Stands.{HoldsTarget}
-use Rattle.assoc_core.specs.Turns.{Turns, event_of, links, mark_of, left_of, context, IsOuterOf, IsFull, IsIdle, IsThereAnd, SameTarget, StopsReading, Filled, Unread, ReadsEnd, TakesNothing, outer_of, IsUnfailing, looked_as}
+use Rattle.assoc_core.specs.Turns.{Turns, event_of, links, mark_of, left_of, context, IsOuterOf, IsFull, IsIdle, IsThereAnd, SameTarget, StopsReading, Filled, Unread, ReadsEnd, TakesNothing, outer_of, looked_as}
 use Rattle.replay_run.specs.Mirrors.{IsGoing, TargetIs, TargetMirrors, takes_nothing}
+use Rattle.replay_run.proofs.Failures.{Tries, done-not-failed, end-is-read, failed_in, faults-are}
 use Rattle.replay_run.proofs.Narrowing.{is-nothing, not-nothing}
 use Rattle.replay_run.proofs.Outsides.{same-arrived, same-ends, same-cap, target-behind, owed-c-short, owed-t-short}
 
@@ -106,6 +107,7 @@ pub record Turning : Type 1 where
   pub marks : last_mark w.marks ≡ None
   pub going : IsGoing (basis_of w) n a net o
   pub turns : Turns told_of_link (λ (l : LinkInMemory). l.counts) stands' (context w.users w.pubs generation config w.cap w.h w.marks) now (told_of_net net) (told_of_net net') a next
+  pub tries : Tries net a (left_of next) turns.acts
   pub stepped : step w (Event.Turn (event_of 1 a.state.number now turns.acts (mark_of next))) ≡ Some new
   pub behind' : numbered new.records a.state.number ≡ Some (turns.result).left
 
@@ -192,17 +194,8 @@ takes-none-c : (k : Turning) → holds Object.Client k.o.no_room ≡ true → k.
 takes-none-c k h = k.turns.room_c (is-nothing k.a.client.room (k.going.room ∙ h))
 
 target-takes-none : (t : Option LinkInMemory) (net : NetInMemory) (o : Outside) → TargetMirrors t net o → holds Object.Target o.no_room ≡ true → TakesNothing told_of_link (told_of_net net) t
-target-takes-none None net o h e = (record { outcome = net.outcome; link = told_of_link net.link }, refl, is-nothing net.link.room (h.0.room ∙ e))
-target-takes-none (Some l) net o h e = is-nothing l.room (h.room ∙ e)
-
--- ---- no call fails
-
-target-unfailing : (t : Option LinkInMemory) (net : NetInMemory) (o : Outside) → TargetMirrors t net o → IsUnfailing told_of_link (told_of_net net) t
-target-unfailing None net o h = (record { outcome = net.outcome; link = told_of_link net.link }, refl, h.0.unfailing)
-target-unfailing (Some l) net o h = h.unfailing
-
-no-fault : (k : Turning) → (k.turns.acts.fault ≡ None) × (k.turns.acts.unwritten ≡ false)
-no-fault k = k.turns.unfailing k.going.unfailing (target-unfailing k.a.target k.net k.o k.going.target)
+target-takes-none None net o h e = (record { outcome = net.outcome; link = told_of_link net.link; due = net.link.counts.due }, refl, is-nothing net.link.room (h.0.room ∙ e))
+target-takes-none (Some l) net o h e = is-nothing l.room (h.0.room ∙ e)
 
 -- ---- the outer call
 
@@ -238,12 +231,12 @@ reached-some (Some r) at h = refl
 
 dial-is : (k : Turning) (t : Option LinkInMemory) → TargetMirrors t k.net k.o → HoldsTarget told_of_link k.a.state t → is_some (reached k.a.state.decisions) ≡ false
     → outer_of k.net.outcome ≡ k.o.dial
-dial-is k None h holds none = h.1
+dial-is k None h holds none = h.2
 dial-is k (Some l) h holds none = not-both (is_some (reached k.a.state.decisions)) (reached-some (reached k.a.state.decisions) holds.0.0 holds.0.1) none
 
 dialled-as : (o : Outside) (net : NetInMemory) (g : Grant) (outer : Outer) → outer_of net.outcome ≡ o.dial
     → (g.facts.command ≡ Command.Connect) × ((plan : Plan) → (told_of_net net).plan ≡ Some plan → outer ≡ outer_of plan.outcome) → outer ≡ reached_as o g.facts.command
-dialled-as o net g outer dial h = h.1 (record { outcome = net.outcome; link = told_of_link net.link }) refl ∙ (dial ∙ sym (ap (reached_as o) h.0))
+dialled-as o net g outer dial h = h.1 (record { outcome = net.outcome; link = told_of_link net.link; due = net.link.counts.due }) refl ∙ (dial ∙ sym (ap (reached_as o) h.0))
 
 looked-up : (o : Outside) (net : NetInMemory) (outer : Outer) → looked_as net.lookup ≡ o.lookup → ((plan : Lookup) → (told_of_net net).lookup_plan ≡ Some plan → outer ≡ looked_as plan) → outer ≡ o.lookup
 looked-up o net outer same h = h net.lookup refl ∙ same
@@ -281,9 +274,6 @@ left-behind k = ap (λ (x : Option World). x >>= λ new. numbered new.records k.
 waits-below : (k : Turning) (waiting : Record → ℕ) → waiting (left k) < pipe_size → IfSome (behind_turn k.w (event k)) (λ x. waiting x < pipe_size)
 waits-below k waiting h = subst (λ (x : Option Record). IfSome x (λ x. waiting x < pipe_size)) (sym (left-behind k)) h
 
-none-contained : {A : Type 0} (x : A) → Contains [] x → ⊥
-none-contained x h = absurd (omega (arith, h.1))
-
 abbrev made-over : Turning → Context
 made-over k = context k.w.users k.w.pubs k.generation k.config k.w.cap k.w.h k.w.marks
 
@@ -311,27 +301,29 @@ comes-if-read k arrived had part stands was read Passes reads waiting passes tol
   };
 }
 
-read-if-comes : (k : Turning) (arrived had part : List ℕ) (stands was read idle : Bool) (Passes : Type 0) (reads : Record → Phase → Bool) (waiting : Basis → Record → ℕ)
+read-if-comes : (k : Turning) → k.turns.acts.fault ≡ None → (arrived had part : List ℕ) (stands was read idle : Bool) (Passes : Type 0) (reads : Record → Phase → Bool) (waiting : Basis → Record → ℕ)
     → (idle ≡ true → (had ++ part ≡ arrived) × (stands ≡ false))
     → StopsReading was read idle part k.turns.acts.fault (Filled (made-over k) k.a.state (left k) (event k) waiting) (Unread (made-over k) k.a.state (event k) reads)
     → Comes k arrived had part stands was Passes reads waiting → read ≡ true
-read-if-comes k arrived had part stands was read idle Passes reads waiting rests (StopsReading.ended h) c = not-both was h c.unread
-read-if-comes k arrived had part stands was read idle Passes reads waiting rests (StopsReading.ends' h) c = h
-read-if-comes k arrived had part stands was read idle Passes reads waiting rests (StopsReading.rested h) c = not-both stands c.stands (rests h).1
-read-if-comes k arrived had part stands was read idle Passes reads waiting rests (StopsReading.took h) c = absurd (omega (arith, h, c.below))
-read-if-comes k arrived had part stands was read idle Passes reads waiting rests (StopsReading.failed h) c =
-    not-both (is_some k.turns.acts.fault) h (ap (λ (x : Option Object). is_some x) (no-fault k).0)
-read-if-comes k arrived had part stands was read idle Passes reads waiting rests (StopsReading.held h) c =
+read-if-comes k unfailed arrived had part stands was read idle Passes reads waiting rests (StopsReading.ended h) c = not-both was h c.unread
+read-if-comes k unfailed arrived had part stands was read idle Passes reads waiting rests (StopsReading.ends' h) c = h
+read-if-comes k unfailed arrived had part stands was read idle Passes reads waiting rests (StopsReading.rested h) c = not-both stands c.stands (rests h).1
+read-if-comes k unfailed arrived had part stands was read idle Passes reads waiting rests (StopsReading.took h) c = absurd (omega (arith, h, c.below))
+read-if-comes k unfailed arrived had part stands was read idle Passes reads waiting rests (StopsReading.failed h) c =
+    not-both (is_some k.turns.acts.fault) h (ap (λ (x : Option Object). is_some x) unfailed)
+read-if-comes k unfailed arrived had part stands was read idle Passes reads waiting rests (StopsReading.held h) c =
     let same : c.reads.behind ≡ h.behind = same-behind c.reads.behind h.behind (sym c.reads.taken' ∙ h.taken') in
     let below : waiting (basis_of k.w) (left k) < pipe_size = subst (λ (x : Option Record). IfSome x (λ x. waiting (basis_of k.w) x < pipe_size)) (left-behind k)
     (c.reads.room (ap (λ (x : Record). phase (basis_of k.w) x) same ∙ h.relays)) in
     absurd (omega (arith, below, h.waits))
-read-if-comes k arrived had part stands was read idle Passes reads waiting rests (StopsReading.unread h) c =
+read-if-comes k unfailed arrived had part stands was read idle Passes reads waiting rests (StopsReading.unread h) c =
     not-both (reads c.reads.behind (phase (basis_of k.w) c.reads.behind)) c.reads.read'
     (ap (λ (x : Record). reads x (phase (basis_of k.w) x)) (same-behind c.reads.behind h.behind (sym c.reads.taken' ∙ h.taken')) ∙ h.unread')
 
-end-fits : (k : Turning) (read : Bool) (C : Type 0) → (read ≡ true → C) → (C → read ≡ true) → EndFits k.turns.acts.fault read C
-end-fits k read C f g = subst (λ (x : Option Object). EndFits x read C) (sym (no-fault k).0) (f, g)
+-- without a failed call an end is read exactly where the turn comes to it
+end-fits : (fault : Option Object) (read : Bool) (C : Type 0) → (read ≡ true → C) → (fault ≡ None → C → read ≡ true) → EndFits fault read C
+end-fits None read C f g = (f, g refl)
+end-fits (Some x) read C f g = f
 
 -- ---- what the ends told
 
@@ -373,18 +365,21 @@ target-rest-told k h =
 
 -- ---- the faults
 
-faults-are : (k : Turning) → FaultsAre k.o (event k) []
-faults-are k = record {
-  named = all-none (Contains k.o.faults);
-  undone = subst (λ (z : List Failing). All (λ f. did (event k) f ≡ false) z) (sym k.going.quiet.faults) (all-none (λ f. did (event k) f ≡ false));
-  none = λ h. refl;
-  first = subst (λ (x : Option Object). IfSome x (λ o. (c : CallKind) × Contains [] (o, c))) (sym (no-fault k).0) tt;
-  unwritten = (λ h. not-both k.turns.acts.unwritten h (no-fault k).1, λ h. cc);
-}
+faults-fit : (k : Turning) → FaultsAre k.o (event k) (failed_in k.tries)
+faults-fit k = faults-are 1 k.a.state.number k.now k.net k.a (left_of k.next) k.turns.acts (mark_of k.next) k.o k.tries k.going.fails k.going.target
+
+-- where an end was read no read failed
+client-unfailed : (k : Turning) → k.turns.acts.end_c ≡ true → Contains (failed_in k.tries) (Object.Client, CallKind.Reading) → ⊥
+client-unfailed k e = done-not-failed k.o (event k) (failed_in k.tries) (Object.Client, CallKind.Reading) (faults-fit k)
+    (end-is-read (some_in k.turns.acts.c) k.turns.acts.end_c (holds Object.Client (event k).idle) e)
+
+target-unfailed : (k : Turning) → k.turns.acts.end_t ≡ true → Contains (failed_in k.tries) (Object.Target, CallKind.Reading) → ⊥
+target-unfailed k e = done-not-failed k.o (event k) (failed_in k.tries) (Object.Target, CallKind.Reading) (faults-fit k)
+    (end-is-read (some_in k.turns.acts.t) k.turns.acts.end_t (holds Object.Target (event k).idle) e)
 
 -- ---- the whole
 
-pub allows : (k : Turning) → Allows k.s k.w k.generation k.config k.o (event k) [] k.a.state
+pub allows : (k : Turning) → Allows k.s k.w k.generation k.config k.o (event k) (failed_in k.tries) k.a.state
 allows k = record {
   moment = sym k.moment;
   stop' = sym k.marks;
@@ -394,13 +389,13 @@ allows k = record {
   datagrams = grams;
   peer = tt;
   outer' = outer-fits k;
-  faults' = faults-are k;
-  client_end = λ h. end-fits k k.turns.acts.end_c _
-      (λ e. comes-if-read k k.o.c k.a.state.c k.turns.acts.c k.o.end_c k.a.state.end_c true _ _ _ (none-contained _) (client-end-told k e) (k.turns.reads_end_c 1 e))
-      (read-if-comes k k.o.c k.a.state.c k.turns.acts.c k.o.end_c k.a.state.end_c k.turns.acts.end_c k.turns.acts.idle_c _ _ _ (client-rest-told k) (k.turns.stops_c 1));
-  target_end = λ h. end-fits k k.turns.acts.end_t _
-      (λ e. comes-if-read k k.o.t k.a.state.t k.turns.acts.t k.o.end_t k.a.state.end_t true _ _ _ (none-contained _) (target-end-told k e) (k.turns.reads_end_t 1 e))
-      (read-if-comes k k.o.t k.a.state.t k.turns.acts.t k.o.end_t k.a.state.end_t k.turns.acts.end_t k.turns.acts.idle_t _ _ _ (target-rest-told k) (k.turns.stops_t 1));
+  faults' = faults-fit k;
+  client_end = λ h. end-fits k.turns.acts.fault k.turns.acts.end_c _
+      (λ e. comes-if-read k k.o.c k.a.state.c k.turns.acts.c k.o.end_c k.a.state.end_c true _ _ _ (client-unfailed k e) (client-end-told k e) (k.turns.reads_end_c 1 e))
+      (λ unfailed. read-if-comes k unfailed k.o.c k.a.state.c k.turns.acts.c k.o.end_c k.a.state.end_c k.turns.acts.end_c k.turns.acts.idle_c _ _ _ (client-rest-told k) (k.turns.stops_c 1));
+  target_end = λ h. end-fits k.turns.acts.fault k.turns.acts.end_t _
+      (λ e. comes-if-read k k.o.t k.a.state.t k.turns.acts.t k.o.end_t k.a.state.end_t true _ _ _ (target-unfailed k e) (target-end-told k e) (k.turns.reads_end_t 1 e))
+      (λ unfailed. read-if-comes k unfailed k.o.t k.a.state.t k.turns.acts.t k.o.end_t k.a.state.end_t k.turns.acts.end_t k.turns.acts.idle_t _ _ _ (target-rest-told k) (k.turns.stops_t 1));
   client_rests = λ h. client-rest-told k (client-listed k.turns.acts.idle_c k.turns.acts.idle_t h);
   target_rests = λ h. target-rest-told k (target-listed k.turns.acts.idle_c k.turns.acts.idle_t h);
   door_rests = λ h. absurd (door-unlisted k.turns.acts.idle_c k.turns.acts.idle_t h);

@@ -14,6 +14,10 @@ use Rattle.socks_machine.specs.declared.world.Event.{Event}
 use Rattle.socks_machine.specs.declared.world.NextMark.{NextMark}
 use Rattle.socks_machine.specs.declared.world.TurnEvent.{TurnEvent}
 use Rattle.socks_machine.specs.declared.world.World.{World}
+use Rattle.socks_machine.specs.declared.cause.StopBy.{StopBy}
+use Rattle.socks_machine.specs.declared.lines.Line.{Line}
+use Rattle.socks_machine.specs.Calls.{Context}
+use Rattle.socks_machine.specs.Follows.{used_up}
 use Rattle.socks_machine.specs.History.{last_mark}
 use Rattle.socks_machine.specs.Phase.{is_udp}
 use Rattle.socks_machine.specs.Script.{Outside, Surroundings}
@@ -34,6 +38,7 @@ use Rattle.replay_run.specs.Played.{is_over}
 use Rattle.replay_run.specs.Shown.{turn_shown}
 use Rattle.replay_run.specs.Taken.{MakesTurn, WritesTurn, left_record, slot_of}
 use Rattle.replay_run.specs.Totals.{totals_of}
+use Rattle.replay_run.proofs.Failures.{Tries}
 use Rattle.replay_run.proofs.Slots.{slot-at}
 use Rattle.replay_run.proofs.Turned as Turned
 use Rattle.replay_run.proofs.Turned.{turned}
@@ -64,6 +69,11 @@ shown : (world : World) (g : ℕ) (ev : TurnEvent) (r : Record) → event_line w
 unfolding turn_shown
 shown world g ev r h = h
 
+-- what a turn tells of its failed calls
+tries-of : (net net' : NetInMemory) (a : Assoc LinkInMemory) (next : Next LinkInMemory) (stands' : List Line → List StopBy → Type 0) (s : Context) (now : ℕ)
+    → (t : Turns told_of_link (λ (l : LinkInMemory). l.counts) stands' s now (told_of_net net) (told_of_net net') a next) → Tries net a (left_of next) t.acts
+tries-of net net' a next stands' s now t = record { failed_c = t.failed_c; failed_t = t.failed_t; tried_c = t.tried_c; tried_t = t.tried_t; fault_is = t.fault_is; unwritten_is = t.unwritten_is }
+
 -- the turn that the script allows at this place, once it is known for the world that the replay stands for
 turned-at : (users : List User) (config : Config) (k : ℕ) (old new : Replay) (a : Assoc LinkInMemory) (net net' : NetInMemory) (next : Next LinkInMemory) (still : Bool) (before : Totals)
     → slice_get old.slots k ≡ Some (Slot.Going a net) → before ≡ totals_of a.state
@@ -76,14 +86,14 @@ turned-at users config k old new a net net' next still before at totals makes wr
   ev = ev;
   left = left;
   world = r.new;
+  failed = r.failed;
   is_turn = r.is_turn;
   stepped = r.stepped;
-  used = r.used;
   over = goes-over ev next refl;
-  mirrors = subst (λ (z : Generations). Mirrors users (StandsFor new.desk) new.desk.cap new.moment s r.new z new.slots) (sym gens)
-      (subst (λ (z : List Slot). Mirrors users (StandsFor new.desk) new.desk.cap new.moment s r.new old.gens z) (sym slots)
-      (subst (λ (n : ℕ). Mirrors users (StandsFor new.desk) new.desk.cap n s r.new old.gens (slice_set old.slots k (slot_of next net'))) (sym same-moment)
-      (subst (λ (n : ℕ). Mirrors users (StandsFor new.desk) n old.moment s r.new old.gens (slice_set old.slots k (slot_of next net'))) (sym makes.cap) r.mirrors)));
+  mirrors = subst (λ (z : Generations). Mirrors users (StandsFor new.desk) new.desk.cap new.moment (used_up s ev r.failed) r.new z new.slots) (sym gens)
+      (subst (λ (z : List Slot). Mirrors users (StandsFor new.desk) new.desk.cap new.moment (used_up s ev r.failed) r.new old.gens z) (sym slots)
+      (subst (λ (n : ℕ). Mirrors users (StandsFor new.desk) new.desk.cap n (used_up s ev r.failed) r.new old.gens (slice_set old.slots k (slot_of next net'))) (sym same-moment)
+      (subst (λ (n : ℕ). Mirrors users (StandsFor new.desk) n old.moment (used_up s ev r.failed) r.new old.gens (slice_set old.slots k (slot_of next net'))) (sym makes.cap) r.mirrors)));
   still' = writes.still' ev refl refl refl took_c took_t put_c put_t;
   line = shown r.new (old.gens).seen ev left r.line';
   out = subst (λ (x : Record). new.out ≡ old.out ++ turn_shown (old.gens).seen ev x) is
@@ -106,7 +116,7 @@ turned-at users config k old new a net net' next still before at totals makes wr
     mark = sym (t.desk).mark ∙ makes.mark
 
     r : Turned.IsTurned users s w old.gens old.slots k ev (slot_of next net') left (StandsFor new.desk) old.desk.cap old.moment
-    r = turned users s w old.gens config old.slots k a net net' next (StandsFor old.desk) (StandsFor new.desk) old.desk.cap old.moment m is-config at t mark
+    r = turned users s w old.gens config old.slots k a net net' next (StandsFor old.desk) (StandsFor new.desk) old.desk.cap old.moment m is-config at t mark (tries-of net net' a next _ _ old.moment t)
 
     took_c : length (left_record next).c ≡ before.took_c + length ev.c
     took_c = longer (left_record next).c a.state.c ev.c before.took_c (ap (λ (x : Record). x.c) is ∙ t.c) (ap (λ (x : Totals). x.took_c) totals)

@@ -1,22 +1,29 @@
--- The lines that change one association: bytes and ends of the client and of the target, and how a lookup and a dial are to come out.
-use Rattle.std.proofs.Common.{ℕ, zero, suc, ◌≡◌, ◌<◌, ◌-◌, ◌∙◌, sym, ap, subst, refl, Bool, true, false, not, Option, Some, None, List, [], ◌∷◌, ◌++◌, length, map, arith, append_assoc, append-nil, length-append, slice_set}
+-- The lines that change one association: bytes and ends of the client and of the target, what a write takes and which call fails,
+-- and how a lookup and a dial are to come out.
+use Rattle.std.proofs.Common.{ℕ, zero, suc, ◌≡◌, ◌<◌, ◌-◌, ◌∙◌, sym, ap, subst, refl, Bool, true, false, not, Option, Some, None, List, [], ◌∷◌, ◌++◌, length, map, arith, append_assoc, append-nil, length-append, slice_set, option_map}
 use Rattle.std.proofs.lemmas.Bool.{and_parts, not-true}
 use Rattle.std.proofs.lemmas.List.{length-set}
 use Rattle.std.specs.Prelude.{slice_get}
 use mathlib.Core.List.{IsPrefix}
 use Rattle.conf_model.specs.declared.user.User.{User}
+use Rattle.net_ends.specs.declared.kinds.Kind.{Kind}
+use Rattle.net_ends.specs.declared.kinds.Kinds.{Kinds}
+use Rattle.net_ends.specs.Faults.{with_kind}
 use Rattle.net_ends.specs.InMemory.{LinkInMemory, NetInMemory, told_of_link}
 use Rattle.net_ends.specs.declared.net.Lookup.{Lookup}
 use Rattle.net_ends.specs.Nets.{DialOutcome}
 use Rattle.net_ends.specs.Told.{Told, Arrival}
 use Rattle.session_desk.specs.Standings.{StandsFor}
 use Rattle.socks_machine.specs.declared.record.Record.{Record}
+use Rattle.socks_machine.specs.declared.script.CallKind.{CallKind}
 use Rattle.socks_machine.specs.declared.script.ScriptLine.{ScriptLine}
 use Rattle.socks_machine.specs.declared.world.Object.{Object}
 use Rattle.socks_machine.specs.declared.world.Outer.{Outer}
 use Rattle.socks_machine.specs.declared.world.World.{World}
 use Rattle.socks_machine.specs.Script.{Outside, Surroundings, change, change_at, is_silent, outside_after, room_for}
 use Rattle.socks_machine.specs.Basis.{Basis}
+use Rattle.socks_machine.specs.Equal.{object_eq}
+use Rattle.socks_machine.specs.Follows.{Failing}
 use Rattle.socks_machine.specs.Inputs.{is_served_input}
 use Rattle.socks_machine.specs.Step.{basis_of}
 use Rattle.assoc_core.specs.declared.assoc.Assoc.{Assoc}
@@ -24,13 +31,14 @@ use Rattle.assoc_core.specs.Stands.{Holds, HoldsTarget, EndsBehind, GivesFirst}
 use Rattle.assoc_core.specs.Turns.{looked_as, outer_of}
 use Rattle.replay_script.specs.declared.state.Side.{Side}
 use Rattle.replay_script.specs.declared.state.State.{State}
-use Rattle.replay_script.specs.Conditions.{IsServedRoom, after, change_side, may_send, on_side, side_of, with_side}
+use Rattle.replay_script.specs.Conditions.{IsServedFault, IsServedRoom, after, change_side, may_send, on_side, side_of, with_side}
 use Rattle.replay_run.specs.declared.slot.Slot.{Slot}
 use Rattle.replay_run.specs.declared.state.Replay.{Replay}
 use Rattle.replay_run.specs.Behind.{IsBehind, IsDue}
-use Rattle.replay_run.specs.Changes.{IsUnended, MayArrive, MayArriveAtTarget, change_net, change_target, with_arrival, with_bytes, with_client_end, with_client_narrow, with_end, with_found, with_lookup, with_narrow, with_outcome, with_plan, with_room, with_side_narrow, with_target_arrival, with_target_end, with_target_narrow}
-use Rattle.replay_run.specs.Mirrors.{HasUsers, IsGoing, IsSlot, Matches, Mirrors, TargetIs, TargetMirrors, record_of}
+use Rattle.replay_run.specs.Changes.{IsUnended, MayArrive, MayArriveAtTarget, change_net, change_target, kind_of, with_arrival, with_bytes, with_client_end, with_client_failure, with_client_narrow, with_end, with_failure, with_found, with_lookup, with_narrow, with_outcome, with_plan, with_room, with_side_failure, with_side_narrow, with_target_arrival, with_target_end, with_target_failure, with_target_narrow}
+use Rattle.replay_run.specs.Mirrors.{FailsAs, HasUsers, IsGoing, IsSlot, Matches, Mirrors, TargetIs, TargetMirrors, record_of}
 use Rattle.replay_run.specs.Played.{Played}
+use Rattle.replay_run.proofs.Due.{due-more, due-same}
 use Rattle.replay_run.proofs.Narrowing.{client-room, client-unnarrowed, target-room-is, target-unnarrowed}
 use Rattle.replay_run.proofs.Places.{IsPlace, IsSide, placed, place-within, side-open, sides-set}
 use Rattle.replay_run.proofs.Playing.{plays-silent}
@@ -79,15 +87,14 @@ is-room : (bytes : List ℕ) (link : LinkInMemory) (o : Outside) → TargetIs li
 is-room bytes link o h = record {
   arrived = h.arrived;
   ends = h.ends;
-  unfailing = h.unfailing;
   cap = let e = length-append o.c bytes in let k = h.cap in omega arith;
   room = h.room;
 }
 
 mirrors-room : (bytes : List ℕ) (t : Option LinkInMemory) (net : NetInMemory) (o : Outside) → TargetMirrors t net o
     → TargetMirrors (change_target (with_room (length bytes)) t) (change_net (with_room (length bytes)) t net) (record o { c = o.c ++ bytes })
-mirrors-room bytes None net o h = (is-room bytes net.link o h.0, h.1)
-mirrors-room bytes (Some link) net o h = is-room bytes link o h
+mirrors-room bytes None net o h = (is-room bytes net.link o h.0, h.1, h.2)
+mirrors-room bytes (Some link) net o h = (is-room bytes link o h.0, h.1)
 
 target-room : (n : ℕ) (r : Record) (t : Option LinkInMemory) → HoldsTarget told_of_link r t → HoldsTarget told_of_link r (change_target (with_room n) t)
 target-room n r None h = h
@@ -107,23 +114,23 @@ going-arrives basis number bytes a net o h unended served = record {
   };
   arrived = ap (λ z. z ++ bytes) h.arrived;
   ends = h.ends;
-  unfailing = h.unfailing;
+  fails = h.fails;
   cap = h.cap;
   room = h.room;
   served = served;
   target = mirrors-room bytes a.target net o h.target;
   lookup = ap looked_as (same-lookup (with_room (length bytes)) a.target net) ∙ h.lookup;
-  quiet = record { grams = h.quiet.grams; peer = h.quiet.peer; faults = h.quiet.faults };
+  quiet = record { grams = h.quiet.grams; peer = h.quiet.peer };
 }
 
 -- bytes of the target, with room for them at the client
 is-more : (bytes : List ℕ) (link : LinkInMemory) (o : Outside) → TargetIs link o → TargetIs (with_bytes bytes link) (record o { t = o.t ++ bytes })
-is-more bytes link o h = record { arrived = ap (λ z. z ++ bytes) h.arrived; ends = h.ends; unfailing = h.unfailing; cap = h.cap; room = h.room }
+is-more bytes link o h = record { arrived = ap (λ z. z ++ bytes) h.arrived; ends = h.ends; cap = h.cap; room = h.room }
 
 mirrors-more : (bytes : List ℕ) (t : Option LinkInMemory) (net : NetInMemory) (o : Outside) → TargetMirrors t net o
     → TargetMirrors (change_target (with_bytes bytes) t) (change_net (with_bytes bytes) t net) (record o { t = o.t ++ bytes })
-mirrors-more bytes None net o h = (is-more bytes net.link o h.0, h.1)
-mirrors-more bytes (Some link) net o h = is-more bytes link o h
+mirrors-more bytes None net o h = (is-more bytes net.link o h.0, h.1, h.2)
+mirrors-more bytes (Some link) net o h = (is-more bytes link o h.0, h.1)
 
 target-more : (bytes : List ℕ) (r : Record) (t : Option LinkInMemory) (net : NetInMemory) (o : Outside) → TargetMirrors t net o → o.end_t ≡ false → HoldsTarget told_of_link r t
     → HoldsTarget told_of_link r (change_target (with_bytes bytes) t)
@@ -131,7 +138,7 @@ target-more bytes r None net o m unended h = h
 target-more bytes r (Some link) net o m unended h = (
   h.0,
   holds-bytes bytes link r.t r.sent_t r.end_t r.shut_t h.1,
-  ends-none link (told_of_link (with_bytes bytes link)) refl (m.ends ∙ unended) h.2,
+  ends-none link (told_of_link (with_bytes bytes link)) refl (m.0.ends ∙ unended) h.2,
   gives-bytes bytes link h.3,
 )
 
@@ -149,19 +156,19 @@ going-target-arrives basis number bytes a net o h unended = record {
   };
   arrived = h.arrived;
   ends = h.ends;
-  unfailing = h.unfailing;
+  fails = h.fails;
   cap = let e = length-append o.t bytes in let k = h.cap in omega arith;
   room = h.room;
   served = h.served;
   target = mirrors-more bytes a.target net o h.target;
   lookup = ap looked_as (same-lookup (with_bytes bytes) a.target net) ∙ h.lookup;
-  quiet = record { grams = h.quiet.grams; peer = h.quiet.peer; faults = h.quiet.faults };
+  quiet = record { grams = h.quiet.grams; peer = h.quiet.peer };
 }
 
 -- the client's end
 mirrors-closed : (t : Option LinkInMemory) (net : NetInMemory) (o : Outside) → TargetMirrors t net o → TargetMirrors t net (record o { end_c = true })
-mirrors-closed None net o h = (record { arrived = h.0.arrived; ends = h.0.ends; unfailing = h.0.unfailing; cap = h.0.cap; room = h.0.room }, h.1)
-mirrors-closed (Some link) net o h = record { arrived = h.arrived; ends = h.ends; unfailing = h.unfailing; cap = h.cap; room = h.room }
+mirrors-closed None net o h = (record { arrived = h.0.arrived; ends = h.0.ends; cap = h.0.cap; room = h.0.room }, h.1, h.2)
+mirrors-closed (Some link) net o h = (record { arrived = h.0.arrived; ends = h.0.ends; cap = h.0.cap; room = h.0.room }, h.1)
 
 going-ends : (basis : Basis) (number : ℕ) (a : Assoc LinkInMemory) (net : NetInMemory) (o : Outside) → IsGoing basis number a net o → o.end_c ≡ false
     → IsSlot basis number (with_client_end (Slot.Going a net)) (record o { end_c = true })
@@ -177,23 +184,23 @@ going-ends basis number a net o h unended = record {
   };
   arrived = h.arrived;
   ends = refl;
-  unfailing = h.unfailing;
+  fails = h.fails;
   cap = h.cap;
   room = h.room;
   served = h.served;
   target = mirrors-closed a.target net o h.target;
   lookup = h.lookup;
-  quiet = record { grams = h.quiet.grams; peer = h.quiet.peer; faults = h.quiet.faults };
+  quiet = record { grams = h.quiet.grams; peer = h.quiet.peer };
 }
 
 -- the target's end
 is-end : (link : LinkInMemory) (o : Outside) → TargetIs link o → TargetIs (with_end link) (record o { end_t = true })
-is-end link o h = record { arrived = h.arrived; ends = refl; unfailing = h.unfailing; cap = h.cap; room = h.room }
+is-end link o h = record { arrived = h.arrived; ends = refl; cap = h.cap; room = h.room }
 
 mirrors-end : (t : Option LinkInMemory) (net : NetInMemory) (o : Outside) → TargetMirrors t net o
     → TargetMirrors (change_target with_end t) (change_net with_end t net) (record o { end_t = true })
-mirrors-end None net o h = (is-end net.link o h.0, h.1)
-mirrors-end (Some link) net o h = is-end link o h
+mirrors-end None net o h = (is-end net.link o h.0, h.1, h.2)
+mirrors-end (Some link) net o h = (is-end link o h.0, h.1)
 
 target-end : (r : Record) (t : Option LinkInMemory) (net : NetInMemory) (o : Outside) → TargetMirrors t net o → o.end_t ≡ false → HoldsTarget told_of_link r t
     → HoldsTarget told_of_link r (change_target with_end t)
@@ -201,7 +208,7 @@ target-end r None net o m unended h = h
 target-end r (Some link) net o m unended h = (
   h.0,
   holds-end link r.t r.sent_t r.end_t r.shut_t h.1,
-  ends-none link (told_of_link (with_end link)) refl (m.ends ∙ unended) h.2,
+  ends-none link (told_of_link (with_end link)) refl (m.0.ends ∙ unended) h.2,
   gives-end link h.3,
 )
 
@@ -219,13 +226,13 @@ going-target-ends basis number a net o h unended = record {
   };
   arrived = h.arrived;
   ends = h.ends;
-  unfailing = h.unfailing;
+  fails = h.fails;
   cap = h.cap;
   room = h.room;
   served = h.served;
   target = mirrors-end a.target net o h.target;
   lookup = ap looked_as (same-lookup with_end a.target net) ∙ h.lookup;
-  quiet = record { grams = h.quiet.grams; peer = h.quiet.peer; faults = h.quiet.faults };
+  quiet = record { grams = h.quiet.grams; peer = h.quiet.peer };
 }
 
 -- how many bytes a write to a side takes at most
@@ -246,21 +253,21 @@ going-client-narrow basis number n a net o h = record {
   };
   arrived = h.arrived;
   ends = h.ends;
-  unfailing = h.unfailing;
+  fails = h.fails;
   cap = h.cap;
   room = client-room n o.no_room;
   served = h.served;
   target = mirrors-other a.target net h.target;
   lookup = h.lookup;
-  quiet = record { grams = h.quiet.grams; peer = h.quiet.peer; faults = h.quiet.faults };
+  quiet = record { grams = h.quiet.grams; peer = h.quiet.peer };
 }
   where
     is-other : (link : LinkInMemory) → TargetIs link o → TargetIs link (record o { no_room = room_for Object.Client n o.no_room })
-    is-other link k = record { arrived = k.arrived; ends = k.ends; unfailing = k.unfailing; cap = k.cap; room = k.room ∙ sym (target-unnarrowed n o.no_room) }
+    is-other link k = record { arrived = k.arrived; ends = k.ends; cap = k.cap; room = k.room ∙ sym (target-unnarrowed n o.no_room) }
 
     mirrors-other : (t : Option LinkInMemory) (net : NetInMemory) → TargetMirrors t net o → TargetMirrors t net (record o { no_room = room_for Object.Client n o.no_room })
-    mirrors-other None net k = (is-other net.link k.0, k.1)
-    mirrors-other (Some link) net k = is-other link k
+    mirrors-other None net k = (is-other net.link k.0, k.1, k.2)
+    mirrors-other (Some link) net k = (is-other link k.0, k.1)
 
 target-narrow : (n : ℕ) (r : Record) (t : Option LinkInMemory) → HoldsTarget told_of_link r t → HoldsTarget told_of_link r (change_target (with_narrow n) t)
 target-narrow n r None h = h
@@ -280,30 +287,111 @@ going-target-narrow basis number n a net o h = record {
   };
   arrived = h.arrived;
   ends = h.ends;
-  unfailing = h.unfailing;
+  fails = h.fails;
   cap = h.cap;
   room = h.room ∙ sym (client-unnarrowed n o.no_room);
   served = h.served;
   target = mirrors-narrow a.target net h.target;
   lookup = ap looked_as (same-lookup (with_narrow n) a.target net) ∙ h.lookup;
-  quiet = record { grams = h.quiet.grams; peer = h.quiet.peer; faults = h.quiet.faults };
+  quiet = record { grams = h.quiet.grams; peer = h.quiet.peer };
 }
   where
     is-narrow : (link : LinkInMemory) → TargetIs link o → TargetIs (with_narrow n link) (record o { no_room = room_for Object.Target n o.no_room })
-    is-narrow link k = record { arrived = k.arrived; ends = k.ends; unfailing = k.unfailing; cap = k.cap; room = target-room-is n o.no_room }
+    is-narrow link k = record { arrived = k.arrived; ends = k.ends; cap = k.cap; room = target-room-is n o.no_room }
 
     mirrors-narrow : (t : Option LinkInMemory) (net : NetInMemory) → TargetMirrors t net o
         → TargetMirrors (change_target (with_narrow n) t) (change_net (with_narrow n) t net) (record o { no_room = room_for Object.Target n o.no_room })
-    mirrors-narrow None net k = (is-narrow net.link k.0, k.1)
-    mirrors-narrow (Some link) net k = is-narrow link k
+    mirrors-narrow None net k = (is-narrow net.link k.0, k.1, k.2)
+    mirrors-narrow (Some link) net k = (is-narrow link k.0, k.1)
+
+-- which call on a side's link fails next
+holds-failure : (kind : Kind) (l : LinkInMemory) (c sent : List ℕ) (ended shut : Bool) → Holds (told_of_link l) c sent ended shut → Holds (told_of_link (with_failure kind l)) c sent ended shut
+holds-failure kind l c sent ended shut h = record { given' = h.given'; taken' = h.taken'; ended' = h.ended'; shut' = h.shut' }
+
+-- what a line says of this object is due on its link too
+fails-too : (x : Object) → object_eq x x ≡ true → (call : CallKind) (l : LinkInMemory) (o : Outside) → FailsAs l x o
+    → FailsAs (with_failure (kind_of call) l) x (record o { faults = o.faults ++ (x, call) ∷ [] })
+fails-too x same call l o h = ap (option_map (λ kinds. with_kind kinds (kind_of call))) h ∙ ap (λ (due : Kinds). Some due) (due-more x same call o.faults)
+
+-- what it says of another object isn't
+fails-still : (x y : Object) → object_eq x y ≡ false → (call : CallKind) (l : LinkInMemory) (o : Outside) → FailsAs l x o → FailsAs l x (record o { faults = o.faults ++ (y, call) ∷ [] })
+fails-still x y other call l o h = h ∙ ap (λ (due : Kinds). Some due) (due-same x y other call o.faults)
+
+is-faulty : (link : LinkInMemory) (o : Outside) (f : Failing) → TargetIs link o → TargetIs link (record o { faults = o.faults ++ f ∷ [] })
+is-faulty link o f h = record { arrived = h.arrived; ends = h.ends; cap = h.cap; room = h.room }
+
+is-failing : (kind : Kind) (link : LinkInMemory) (o : Outside) → TargetIs link o → TargetIs (with_failure kind link) o
+is-failing kind link o h = record { arrived = h.arrived; ends = h.ends; cap = h.cap; room = h.room }
+
+going-client-fails : (basis : Basis) (number : ℕ) (call : CallKind) (a : Assoc LinkInMemory) (net : NetInMemory) (o : Outside) → IsGoing basis number a net o
+    → IsSlot basis number (with_client_failure (kind_of call) (Slot.Going a net)) (record o { faults = o.faults ++ (Object.Client, call) ∷ [] })
+going-client-fails basis number call a net o h = record {
+  number' = h.number';
+  stands = record {
+    plain = h.stands.plain;
+    direct = h.stands.direct;
+    client = holds-failure (kind_of call) a.client a.state.c a.state.sent_c a.state.end_c a.state.shut_c h.stands.client;
+    client_ends = h.stands.client_ends;
+    client_first = h.stands.client_first;
+    target = h.stands.target;
+  };
+  arrived = h.arrived;
+  ends = h.ends;
+  fails = fails-too Object.Client refl call a.client o h.fails;
+  cap = h.cap;
+  room = h.room;
+  served = h.served;
+  target = mirrors-faulty a.target net h.target;
+  lookup = h.lookup;
+  quiet = record { grams = h.quiet.grams; peer = h.quiet.peer };
+}
+  where
+    mirrors-faulty : (t : Option LinkInMemory) (net : NetInMemory) → TargetMirrors t net o → TargetMirrors t net (record o { faults = o.faults ++ (Object.Client, call) ∷ [] })
+    mirrors-faulty None net k = (is-faulty net.link o (Object.Client, call) k.0, fails-still Object.Target Object.Client refl call net.link o k.1, k.2)
+    mirrors-faulty (Some link) net k = (is-faulty link o (Object.Client, call) k.0, fails-still Object.Target Object.Client refl call link o k.1)
+
+target-failure : (kind : Kind) (r : Record) (t : Option LinkInMemory) → HoldsTarget told_of_link r t → HoldsTarget told_of_link r (change_target (with_failure kind) t)
+target-failure kind r None h = h
+target-failure kind r (Some link) h = (h.0, holds-failure kind link r.t r.sent_t r.end_t r.shut_t h.1, h.2, h.3)
+
+going-target-fails : (basis : Basis) (number : ℕ) (call : CallKind) (a : Assoc LinkInMemory) (net : NetInMemory) (o : Outside) → IsGoing basis number a net o
+    → IsSlot basis number (with_target_failure (kind_of call) (Slot.Going a net)) (record o { faults = o.faults ++ (Object.Target, call) ∷ [] })
+going-target-fails basis number call a net o h = record {
+  number' = h.number';
+  stands = record {
+    plain = h.stands.plain;
+    direct = h.stands.direct;
+    client = h.stands.client;
+    client_ends = h.stands.client_ends;
+    client_first = h.stands.client_first;
+    target = target-failure (kind_of call) a.state a.target h.stands.target;
+  };
+  arrived = h.arrived;
+  ends = h.ends;
+  fails = fails-still Object.Client Object.Target refl call a.client o h.fails;
+  cap = h.cap;
+  room = h.room;
+  served = h.served;
+  target = mirrors-failing a.target net h.target;
+  lookup = ap looked_as (same-lookup (with_failure (kind_of call)) a.target net) ∙ h.lookup;
+  quiet = record { grams = h.quiet.grams; peer = h.quiet.peer };
+}
+  where
+    failing : (link : LinkInMemory) → TargetIs link o → TargetIs (with_failure (kind_of call) link) (record o { faults = o.faults ++ (Object.Target, call) ∷ [] })
+    failing link k = is-faulty (with_failure (kind_of call) link) o (Object.Target, call) (is-failing (kind_of call) link o k)
+
+    mirrors-failing : (t : Option LinkInMemory) (net : NetInMemory) → TargetMirrors t net o
+        → TargetMirrors (change_target (with_failure (kind_of call)) t) (change_net (with_failure (kind_of call)) t net) (record o { faults = o.faults ++ (Object.Target, call) ∷ [] })
+    mirrors-failing None net k = (failing net.link k.0, fails-too Object.Target refl call net.link o k.1, k.2)
+    mirrors-failing (Some link) net k = (failing link k.0, fails-too Object.Target refl call link o k.1)
 
 -- how a lookup comes out
 is-found : (link : LinkInMemory) (o : Outside) (outer : Outer) → TargetIs link o → TargetIs link (record o { lookup = outer })
-is-found link o outer h = record { arrived = h.arrived; ends = h.ends; unfailing = h.unfailing; cap = h.cap; room = h.room }
+is-found link o outer h = record { arrived = h.arrived; ends = h.ends; cap = h.cap; room = h.room }
 
 mirrors-found : (outcome : Lookup) (outer : Outer) (t : Option LinkInMemory) (net : NetInMemory) (o : Outside) → TargetMirrors t net o → TargetMirrors t (with_found outcome net) (record o { lookup = outer })
-mirrors-found outcome outer None net o h = (is-found net.link o outer h.0, h.1)
-mirrors-found outcome outer (Some link) net o h = is-found link o outer h
+mirrors-found outcome outer None net o h = (is-found net.link o outer h.0, h.1, h.2)
+mirrors-found outcome outer (Some link) net o h = (is-found link o outer h.0, h.1)
 
 going-looked : (basis : Basis) (number : ℕ) (outcome : Lookup) (outer : Outer) (a : Assoc LinkInMemory) (net : NetInMemory) (o : Outside) → looked_as outcome ≡ outer
     → IsGoing basis number a net o → IsSlot basis number (with_lookup outcome (Slot.Going a net)) (record o { lookup = outer })
@@ -312,23 +400,23 @@ going-looked basis number outcome outer a net o same h = record {
   stands = h.stands;
   arrived = h.arrived;
   ends = h.ends;
-  unfailing = h.unfailing;
+  fails = h.fails;
   cap = h.cap;
   room = h.room;
   served = h.served;
   target = mirrors-found outcome outer a.target net o h.target;
   lookup = same;
-  quiet = record { grams = h.quiet.grams; peer = h.quiet.peer; faults = h.quiet.faults };
+  quiet = record { grams = h.quiet.grams; peer = h.quiet.peer };
 }
 
 -- how the next dial comes out
 is-plan : (link : LinkInMemory) (o : Outside) (outer : Outer) → TargetIs link o → TargetIs link (record o { dial = outer })
-is-plan link o outer h = record { arrived = h.arrived; ends = h.ends; unfailing = h.unfailing; cap = h.cap; room = h.room }
+is-plan link o outer h = record { arrived = h.arrived; ends = h.ends; cap = h.cap; room = h.room }
 
 mirrors-plan : (outcome : DialOutcome) (outer : Outer) (t : Option LinkInMemory) (net : NetInMemory) (o : Outside) → outer_of outcome ≡ outer → TargetMirrors t net o
     → TargetMirrors t (with_outcome outcome net) (record o { dial = outer })
-mirrors-plan outcome outer None net o same h = (is-plan net.link o outer h.0, same)
-mirrors-plan outcome outer (Some link) net o same h = is-plan link o outer h
+mirrors-plan outcome outer None net o same h = (is-plan net.link o outer h.0, h.1, same)
+mirrors-plan outcome outer (Some link) net o same h = (is-plan link o outer h.0, h.1)
 
 going-planned : (basis : Basis) (number : ℕ) (outcome : DialOutcome) (outer : Outer) (a : Assoc LinkInMemory) (net : NetInMemory) (o : Outside) → outer_of outcome ≡ outer
     → IsGoing basis number a net o → IsSlot basis number (with_plan outcome (Slot.Going a net)) (record o { dial = outer })
@@ -337,13 +425,13 @@ going-planned basis number outcome outer a net o same h = record {
   stands = h.stands;
   arrived = h.arrived;
   ends = h.ends;
-  unfailing = h.unfailing;
+  fails = h.fails;
   cap = h.cap;
   room = h.room;
   served = h.served;
   target = mirrors-plan outcome outer a.target net o same h.target;
   lookup = h.lookup;
-  quiet = record { grams = h.quiet.grams; peer = h.quiet.peer; faults = h.quiet.faults };
+  quiet = record { grams = h.quiet.grams; peer = h.quiet.peer };
 }
 
 -- ---- the place of a line's association
@@ -576,6 +664,38 @@ room-changes basis number side most linked = record {
     by-record Object.Door y = refl
     by-record Object.Port y = refl
 
+pub fault-changes : (basis : Basis) (number : ℕ) (side : Object) (call : CallKind) (kind : Kind) → IsServedFault side → kind ≡ kind_of call
+    → Changes basis (ScriptLine.Fault number side call) number (λ x. true) (λ o. record o { faults = o.faults ++ (side, call) ∷ [] }) (λ x. x) (with_side_failure side kind)
+fault-changes basis number side call kind linked same = record {
+  silent = λ w. refl;
+  outside' = λ s. refl;
+  state' = λ state. unchanged state number;
+  is = λ x o i. i;
+  stands = λ n x o y i t h. subst (λ (z : Kind). IsSlot basis n (with_side_failure side z y) (record o { faults = o.faults ++ (side, call) ∷ [] })) (sym same) (by-side side linked n o y h);
+  record' = by-record side;
+}
+  where
+    by-side : (side : Object) → IsServedFault side → (n : ℕ) (o : Outside) (y : Slot) → IsSlot basis n y o
+        → IsSlot basis n (with_side_failure side (kind_of call) y) (record o { faults = o.faults ++ (side, call) ∷ [] })
+    by-side Object.Client l n o (Slot.Going a net) h = going-client-fails basis n call a net o h
+    by-side Object.Client l n o (Slot.Over e) h = h
+    by-side Object.Client l n o Slot.Away h = absurd h
+    by-side Object.Target l n o (Slot.Going a net) h = going-target-fails basis n call a net o h
+    by-side Object.Target l n o (Slot.Over e) h = h
+    by-side Object.Target l n o Slot.Away h = absurd h
+    by-side Object.Door l n o y h = absurd l
+    by-side Object.Port l n o y h = absurd l
+
+    by-record : (side : Object) (y : Slot) → record_of (with_side_failure side kind y) ≡ record_of y
+    by-record Object.Client (Slot.Going a net) = refl
+    by-record Object.Client (Slot.Over e) = refl
+    by-record Object.Client Slot.Away = refl
+    by-record Object.Target (Slot.Going a net) = refl
+    by-record Object.Target (Slot.Over e) = refl
+    by-record Object.Target Slot.Away = refl
+    by-record Object.Door y = refl
+    by-record Object.Port y = refl
+
 pub lookup-changes : (basis : Basis) (number : ℕ) (outer : Outer) (outcome : Lookup) → looked_as outcome ≡ outer
     → Changes basis (ScriptLine.Lookup number outer) number (λ x. not x.looked) (λ o. record o { lookup = outer }) (λ x. record x { looked = true }) (with_lookup outcome)
 lookup-changes basis number outer outcome same = record {
@@ -653,7 +773,7 @@ may-arrive-at-target basis number sides os slots p slot found = subst MayArriveA
 
     unended : (t : Option LinkInMemory) (net : NetInMemory) → TargetMirrors t net p.o → p.o.end_t ≡ false → IsUnended t net
     unended None net m e = m.0.ends ∙ e
-    unended (Some link) net m e = m.ends ∙ e
+    unended (Some link) net m e = m.0.ends ∙ e
 
     by-slot : (y : Slot) → IsSlot basis (suc p.k) y p.o → MayArriveAtTarget y
     by-slot (Slot.Going a net) h = unended a.target net h.target (sym p.is.2 ∙ not-true p.side.end_t p.passes)

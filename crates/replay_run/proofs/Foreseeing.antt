@@ -74,7 +74,7 @@ gives-or-leaves state (ScriptLine.Peer a peer) form = absurd form
 gives-or-leaves state (ScriptLine.Port a outer) form = absurd form
 gives-or-leaves state (ScriptLine.Datagram a peer bytes) form = absurd form
 gives-or-leaves state (ScriptLine.Room a x n) form = inr (record { users = refl; given' = refl; open' = λ h. h; others = λ rest. refl })
-gives-or-leaves state (ScriptLine.Fault a x k) form = absurd form
+gives-or-leaves state (ScriptLine.Fault a x k) form = inr (record { users = refl; given' = refl; open' = λ h. h; others = λ rest. refl })
 gives-or-leaves state (ScriptLine.Now n) form = inr (record { users = refl; given' = refl; open' = λ h. h; others = λ rest. refl })
 gives-or-leaves state (ScriptLine.Turn w a) form = inr (record { users = refl; given' = refl; open' = λ h. h; others = λ rest. refl })
 gives-or-leaves state ScriptLine.Stop form = absurd form

@@ -102,7 +102,7 @@ slots-later users pubs k number (slot ∷ slots) (o ∷ os) h = (slot-later numb
       stands = stands-published told_of_link users pubs k a h.stands;
       arrived = h.arrived;
       ends = h.ends;
-      unfailing = h.unfailing;
+      fails = h.fails;
       cap = h.cap;
       room = h.room;
       served = h.served;
@@ -267,13 +267,13 @@ opened-is basis number peer local now = record {
   stands = opened-stands basis number peer local now;
   arrived = refl;
   ends = refl;
-  unfailing = refl;
+  fails = refl;
   cap = omega arith;
   room = refl;
   served = refl;
-  target = (record { arrived = refl; ends = refl; unfailing = refl; cap = omega arith; room = refl }, refl);
+  target = (record { arrived = refl; ends = refl; cap = omega arith; room = refl }, refl, refl);
   lookup = refl;
-  quiet = record { grams = refl; peer = refl; faults = refl };
+  quiet = record { grams = refl; peer = refl };
 }
 
 open-step : (w : World) (seen : ℕ) (number : ℕ) (peer local : Endpoint) (now : ℕ) → w.seen ≡ seen_by_workers seen → (number == length w.records + 1) ≡ true

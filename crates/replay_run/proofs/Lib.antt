@@ -2,7 +2,9 @@ pub mod Allowing
 pub mod AtTurns
 pub mod Beginning
 pub mod Changing
+pub mod Due
 pub mod Ending
+pub mod Failures
 pub mod Foreseeing
 pub mod Forms
 pub mod Happening

@@ -45,7 +45,6 @@ pub same-target-is : (l l' : LinkInMemory) (o : Outside) → TargetIs l o → Sa
 same-target-is l l' o h k = record {
   arrived = same-arrived l l' k ∙ h.arrived;
   ends = same-ends l l' k ∙ h.ends;
-  unfailing = k.unfailing ∙ h.unfailing;
   cap = subst (λ (n : ℕ). length o.c ≤ n) (sym (same-cap l l' k)) h.cap;
   room = ap takes_nothing k.room ∙ h.room;
 }
@@ -53,8 +52,8 @@ same-target-is l l' o h k = record {
 -- the target's link behind a turn
 pub target-behind : (t : Option LinkInMemory) (net : NetInMemory) (o : Outside) (l' : LinkInMemory) → TargetMirrors t net o
     → SameTarget told_of_link (told_of_net net) t (Some l') → TargetIs l' o
-target-behind None net o l' h k = same-target-is net.link l' o h.0 (k (record { outcome = net.outcome; link = told_of_link net.link }) refl)
-target-behind (Some l) net o l' h k = same-target-is l l' o h k
+target-behind None net o l' h k = same-target-is net.link l' o h.0 (k (record { outcome = net.outcome; link = told_of_link net.link; due = net.link.counts.due }) refl)
+target-behind (Some l) net o l' h k = same-target-is l l' o h.0 k
 
 -- ---- how much is owed at most
 

@@ -2,12 +2,15 @@
 use Rattle.std.proofs.Common.{ℕ, zero, suc, ◌≡◌, ◌+◌, ◌∙◌, sym, ap, subst, refl, not, filter, is_some, if◌then◌else◌, Option, Some, None, List, [], ◌∷◌, ◌++◌, length, map, arith, slice_set}
 use Rattle.std.specs.Prelude.{slice_get}
 use Rattle.socks_machine.specs.declared.world.TurnEvent.{TurnEvent}
-use Rattle.addr_pattern.specs.declared.endpoint.Endpoint.{Endpoint}
 use Rattle.socks_machine.specs.Basis.{Basis}
-use Rattle.socks_machine.specs.Follows.{used_up, is_used}
+use Rattle.conf_model.specs.declared.user.User.{User}
+use Rattle.generation.specs.Published.{Generations}
+use Rattle.socks_machine.specs.Follows.{Failing, used_up, is_used}
 use Rattle.socks_machine.specs.Script.{Outside, Surroundings, change, change_at}
 use Rattle.replay_run.specs.declared.slot.Slot.{Slot}
-use Rattle.replay_run.specs.Mirrors.{AreSlots, IsSlot}
+use Rattle.replay_script.specs.declared.state.Side.{Side}
+use Rattle.replay_script.specs.declared.state.State.{State}
+use Rattle.replay_run.specs.Mirrors.{AreSides, AreSlots, IsSlot, Matches}
 
 pub set-same : {A : Type 0} (xs : List A) (k : ℕ) (x : A) → slice_get xs k ≡ Some x → slice_set xs k x ≡ xs
 set-same [] k x h = refl
@@ -67,20 +70,51 @@ slots-more basis number [] (o' ∷ os) slot o h is = absurd h
 slots-more basis number (s ∷ ss) [] slot o h is = absurd h
 slots-more basis number (s ∷ ss) (o' ∷ os) slot o h is = (h.0, slots-more basis (suc number) ss os slot o h.1 (subst (λ (n : ℕ). IsSlot basis n slot o) (omega arith) is))
 
-abbrev after_turn : TurnEvent → Outside → Outside
-after_turn ev o = record o { faults = filter (λ f. not (is_used [] f)) o.faults; peer = (if is_some ev.came then None else o.peer) }
+-- what is left outside behind a turn in which these calls failed
+abbrev pub after_turn : TurnEvent → List Failing → Outside → Outside
+after_turn ev failed o = record o { faults = filter (λ f. not (is_used failed f)) o.faults; peer = (if is_some ev.came then None else o.peer) }
 
-same-outside : (ev : TurnEvent) (o : Outside) → ev.came ≡ None → o.faults ≡ [] → after_turn ev o ≡ o
-same-outside ev o came faults = λ i. record o {
-  faults = (ap (filter (λ f. not (is_used [] f))) faults ∙ sym faults) i;
-  peer = ap (λ (x : Option Endpoint). if is_some x then None else o.peer) came i;
+pub used-at : (s : Surroundings) (ev : TurnEvent) (failed : List Failing) (k : ℕ) (o : Outside) → ev.number ≡ suc k → slice_get s.outsides k ≡ Some o
+    → used_up s ev failed ≡ record s { outsides = slice_set s.outsides k (after_turn ev failed o) }
+used-at s ev failed k o number at = ap (λ n. change s n (after_turn ev failed)) number ∙ ap (change_at s (suc k) (after_turn ev failed)) at
+
+same-some : {A : Type 0} (a b : A) → Some a ≡ Some b → a ≡ b
+same-some a b h = cc
+
+-- what the reader keeps of the associations is still what is outside
+sides-kept : (ev : TurnEvent) (failed : List Failing) (sides : List Side) (os : List Outside) (k : ℕ) (o : Outside) → slice_get os k ≡ Some o → AreSides sides os
+    → AreSides sides (slice_set os k (after_turn ev failed o))
+sides-kept ev failed [] [] k o at h = tt
+sides-kept ev failed [] (x ∷ os) k o at h = absurd h
+sides-kept ev failed (y ∷ ys) [] k o at h = absurd h
+sides-kept ev failed (y ∷ ys) (x ∷ os) zero o at h = let e = same-some x o at in
+    (h.0 ∙ ap (λ (z : Outside). z.c) e, h.1 ∙ ap (λ (z : Outside). z.end_c) e, h.2 ∙ ap (λ (z : Outside). z.end_t) e, h.3)
+sides-kept ev failed (y ∷ ys) (x ∷ os) (suc k) o at h = (h.0, h.1, h.2, sides-kept ev failed ys os k o at h.3)
+
+sides-used : (s : Surroundings) (ev : TurnEvent) (failed : List Failing) (sides : List Side) (n : ℕ) → AreSides sides s.outsides → AreSides sides (change s n (after_turn ev failed)).outsides
+sides-used s ev failed sides zero h = h
+sides-used s ev failed sides (suc k) h = by (slice_get s.outsides k) refl
+  where
+    by : (x : Option Outside) → slice_get s.outsides k ≡ x → AreSides sides (change_at s (suc k) (after_turn ev failed) x).outsides
+    by None at = h
+    by (Some o) at = sides-kept ev failed sides s.outsides k o at h
+
+same-moment : (s : Surroundings) (n : ℕ) (f : Outside → Outside) → (change s n f).now ≡ s.now
+same-moment s zero f = refl
+same-moment s (suc k) f = by (slice_get s.outsides k)
+  where
+    by : (x : Option Outside) → (change_at s (suc k) f x).now ≡ s.now
+    by None = refl
+    by (Some o) = refl
+
+-- the reader's state is still what was played
+pub matches-used : (users : List User) (state : State) (s : Surroundings) (gens : Generations) (ev : TurnEvent) (failed : List Failing) → Matches users state s gens
+    → Matches users state (used_up s ev failed) gens
+matches-used users state s gens ev failed h = record {
+  users' = h.users';
+  published' = h.published';
+  seen' = h.seen';
+  moment = h.moment ∙ sym (same-moment s ev.number (after_turn ev failed));
+  sides = sides-used s ev failed state.sides ev.number h.sides;
+  plain = h.plain;
 }
-
--- a turn without a failed call and without a peer uses nothing up
-pub nothing-used : (s : Surroundings) (ev : TurnEvent) (k : ℕ) (o : Outside) → ev.number ≡ suc k → slice_get s.outsides k ≡ Some o → ev.came ≡ None → o.faults ≡ []
-    → used_up s ev [] ≡ s
-nothing-used s ev k o number at came faults =
-    ap (λ n. change s n (after_turn ev)) number
-    ∙ (ap (change_at s (suc k) (after_turn ev)) at
-    ∙ (ap (λ (x : Outside). let y : Surroundings = record s { outsides = slice_set s.outsides k x } in y) (same-outside ev o came faults)
-    ∙ ap (λ (x : List Outside). let y : Surroundings = record s { outsides = x } in y) (set-same s.outsides k o at)))

@@ -8,9 +8,9 @@ use Rattle.socks_machine.specs.declared.script.ScriptLine.{ScriptLine}
 use Rattle.socks_machine.specs.declared.world.Event.{Event}
 use Rattle.socks_machine.specs.declared.world.World.{World}
 use Rattle.socks_machine.specs.Basis.{Basis}
-use Rattle.socks_machine.specs.Script.{Outside, Surroundings, is_over, is_silent}
+use Rattle.socks_machine.specs.Follows.{used_up}
+use Rattle.socks_machine.specs.Script.{Outside, is_over, is_silent}
 use Rattle.socks_machine.specs.Step.{basis_of}
-use Rattle.socks_machine.specs.Transcript.{event_line}
 use Rattle.replay_script.specs.declared.state.Side.{Side}
 use Rattle.replay_script.specs.declared.state.State.{State}
 use Rattle.replay_script.specs.Conditions.{allows}
@@ -22,7 +22,7 @@ use Rattle.replay_run.specs.Mirrors.{HasSeen, IsSlot, Matches, record_of}
 use Rattle.replay_run.specs.Played.{Played}
 use Rattle.replay_run.proofs.Places.{IsPlace, placed, place-within}
 use Rattle.replay_run.proofs.Playing.{plays-event, plays-silent}
-use Rattle.replay_run.proofs.Slots.{get-map-at}
+use Rattle.replay_run.proofs.Slots.{get-map-at, matches-used}
 
 both : (a b : Bool) → a && b ≡ true → (a ≡ true) × (b ≡ true)
 both true true h = (refl, refl)
@@ -51,14 +51,13 @@ happens : (users : List User) (script lines : List ScriptLine) (state : State) (
     → (b : IsBehind users script lines state old) → is_silent b.w (ScriptLine.Turn 1 (suc k)) ≡ false → IsTurned users b.s b.w k old new still
     → IsBehind users script (lines ++ ScriptLine.Turn 1 (suc k) ∷ []) state new
 happens users script lines state old new still k b loud t = record {
-  s = b.s;
+  s = used_up b.s t.ev t.failed;
   w = t.world;
-  played = subst (λ (out : List ℕ). Played script (lines ++ ScriptLine.Turn 1 (suc k) ∷ []) b.s t.world out)
+  played = subst (λ (out : List ℕ). Played script (lines ++ ScriptLine.Turn 1 (suc k) ∷ []) (used_up b.s t.ev t.failed) t.world out)
       (ap (λ (z : List ℕ). old.out ++ z) t.line ∙ sym t.out)
-      (subst (λ (s : Surroundings). Played script (lines ++ ScriptLine.Turn 1 (suc k) ∷ []) s t.world (old.out ++ event_line t.world (Event.Turn t.ev))) t.used
-      (plays-event script lines b.s b.w t.world old.out (ScriptLine.Turn 1 (suc k)) (Event.Turn t.ev) [] b.played loud (t.ev, refl, t.is_turn) t.stepped t.over));
+      (plays-event script lines b.s b.w t.world old.out (ScriptLine.Turn 1 (suc k)) (Event.Turn t.ev) t.failed b.played loud (t.ev, refl, t.is_turn) t.stepped t.over);
   mirrors = t.mirrors;
-  matches = subst (λ (gens : Generations). Matches users state b.s gens) (sym t.gens) b.matches;
+  matches = subst (λ (gens : Generations). Matches users state (used_up b.s t.ev t.failed) gens) (sym t.gens) (matches-used users state b.s old.gens t.ev t.failed b.matches);
 }
 
 rests : (users : List User) (script lines : List ScriptLine) (state : State) (old : Replay) (number : ℕ)

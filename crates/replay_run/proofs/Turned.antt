@@ -1,16 +1,20 @@
 -- The world behind a turn, and that the replay still holds what it is.
-use Rattle.std.proofs.Common.{ℕ, zero, suc, ◌≡◌, ◌≤◌, ◌+◌, ◌∙◌, sym, ap, subst, refl, Bool, true, false, Option, Some, None, is_some, List, [], ◌∷◌, length, map, arith, slice_set}
+use Rattle.std.proofs.Common.{ℕ, zero, suc, ◌≡◌, ◌≤◌, ◌+◌, ◌∙◌, sym, ap, subst, refl, Bool, true, false, Option, Some, None, is_some, if◌then◌else◌, List, [], ◌∷◌, length, map, arith, slice_set}
 use Rattle.std.specs.Prelude.{slice_get, unwrap_or}
 use Rattle.conf_model.specs.declared.config.Config.{Config}
 use Rattle.conf_model.specs.declared.user.User.{User}
 use Rattle.generation.specs.Published.{Generations}
 use Rattle.socks_machine.specs.Basis.{Basis}
+use Rattle.net_ends.specs.declared.kinds.Kind.{Kind}
+use Rattle.net_ends.specs.declared.kinds.Kinds.{Kinds}
+use Rattle.net_ends.specs.Faults.{without}
 use Rattle.net_ends.specs.InMemory.{LinkInMemory, NetInMemory, told_of_link, told_of_net}
 use Rattle.rule_list.specs.Rules.{numbered}
 use Rattle.socks_machine.specs.declared.cause.StopBy.{StopBy}
 use Rattle.socks_machine.specs.declared.lines.Line.{Line}
 use Rattle.socks_machine.specs.declared.record.Record.{Record}
 use Rattle.socks_machine.specs.declared.world.Event.{Event}
+use Rattle.socks_machine.specs.declared.world.Object.{Object}
 use Rattle.socks_machine.specs.declared.world.TurnEvent.{TurnEvent}
 use Rattle.socks_machine.specs.declared.world.World.{World}
 use Rattle.socks_machine.specs.Calls.{TurnResult}
@@ -31,14 +35,16 @@ use Rattle.socks_machine.specs.Decisions.{reached_at}
 use Rattle.assoc_core.specs.Plain.{IsPlainRecord}
 use Rattle.assoc_core.specs.Stands.{GoesDirect, Holds, HoldsTarget}
 use Rattle.net_ends.specs.declared.net.Lookup.{Lookup}
-use Rattle.assoc_core.specs.Turns.{PlanStays, SameTarget, looked_as, outer_of}
-use Rattle.replay_run.specs.Mirrors.{Mirrors, AreSlots, IsGoing, IsSlot, TargetIs, TargetMirrors, record_of, seen_by_workers, takes_nothing}
+use Rattle.assoc_core.specs.Turns.{PlanStays, SameTarget, TriedTarget, looked_as, outer_of}
+use Rattle.replay_run.specs.Mirrors.{FailsAs, Mirrors, IsGoing, IsSlot, TargetIs, TargetMirrors, due_on, record_of, seen_by_workers, takes_nothing}
 use Rattle.replay_run.specs.Taken.{slot_of}
 use Rattle.replay_run.proofs.Outsides.{same-arrived, same-ends, same-cap, same-target-is, target-behind}
-use Rattle.socks_machine.specs.Follows.{IsTurnOf, used_up}
+use Rattle.socks_machine.specs.Follows.{Failing, IsTurnOf, used_up}
 use Rattle.socks_machine.specs.Transcript.{event_line, turn_line}
 use Rattle.replay_run.proofs.Allowing.{allows}
-use Rattle.replay_run.proofs.Slots.{map-set-at, get-map-at, get-set-at, slot-at, slots-set, set-same, nothing-used}
+use Rattle.replay_run.proofs.Due.{due-left-c, due-left-t, failed_calls}
+use Rattle.replay_run.proofs.Failures.{Tries, failed_in}
+use Rattle.replay_run.proofs.Slots.{after_turn, map-set-at, get-map-at, get-set-at, slot-at, slots-set, used-at}
 
 -- a turn is made in the generation that was seen, on the record of its number
 turn-steps : (w : World) (gens : Generations) (config : Config) (a : Assoc LinkInMemory) (slots : List Slot) (net net' : NetInMemory) (next : Next LinkInMemory) (stands' : List Line → List StopBy → Type 0) (k now : ℕ)
@@ -67,16 +73,22 @@ numbered-set w k r old n number at = subst (λ (m : ℕ). numbered (made w m r).
 
 -- ---- the association still stands beside its outside
 
-plan-same : (net net' : NetInMemory) (o : Outside) → TargetIs net.link o × (outer_of net.outcome ≡ o.dial) → (told_of_net net').plan ≡ (told_of_net net).plan
-    → TargetIs net'.link o × (outer_of net'.outcome ≡ o.dial)
-plan-same net net' o h same = (
-  same-target-is net.link net'.link o h.0 (record {
+left-is : (ev : TurnEvent) (failed : List Failing) (l : LinkInMemory) (o : Outside) → TargetIs l o → TargetIs l (after_turn ev failed o)
+left-is ev failed l o h = record { arrived = h.arrived; ends = h.ends; cap = h.cap; room = h.room }
+
+plan-same : (net net' : NetInMemory) (o : Outside) (ev : TurnEvent) (c f : Option Kind) → TargetIs net.link o × FailsAs net.link Object.Target o × (outer_of net.outcome ≡ o.dial) → f ≡ None
+    → (told_of_net net').plan ≡ (told_of_net net).plan
+    → TargetMirrors None net' (after_turn ev (failed_calls c f) o)
+plan-same net net' o ev c f h none same = (
+  left-is ev (failed_calls c f) net'.link o (same-target-is net.link net'.link o h.0 (record {
     arrived = ap (λ (p : Option Plan). elim p [ Some x ↦ x.link.arrived | None ↦ None ]) same;
     cap = ap (λ (p : Option Plan). elim p [ Some x ↦ x.link.cap | None ↦ None ]) same;
     room = ap (λ (p : Option Plan). elim p [ Some x ↦ x.link.room | None ↦ None ]) same;
     unfailing = ap (λ (p : Option Plan). elim p [ Some x ↦ x.link.unfailing | None ↦ false ]) same;
-  }),
-  ap (λ (p : Option Plan). elim p [ Some x ↦ outer_of x.outcome | None ↦ o.dial ]) same ∙ h.1,
+  })),
+  ap (λ (p : Option Plan). elim p [ Some x ↦ x.due | None ↦ None ]) same
+      ∙ (h.1 ∙ ap (λ (due : Kinds). Some due) (sym (due-left-t c f o.faults ∙ ap (without (due_on Object.Target o.faults)) none))),
+  ap (λ (p : Option Plan). elim p [ Some x ↦ outer_of x.outcome | None ↦ o.dial ]) same ∙ h.2,
 )
 
 plan-stays : (net net' : NetTold) (outer : Outer) (there : Bool) → there ≡ false → PlanStays net net' outer there → net'.plan ≡ net.plan
@@ -90,18 +102,27 @@ plan-stays net net' Outer.HostUnreachable there none h = h
 plan-stays net net' Outer.NetUnreachable there none h = h
 plan-stays net net' Outer.Failed there none h = h
 
-target-still : (t t' : Option LinkInMemory) (net net' : NetInMemory) (o : Outside) (r : Record) (outer : Outer) → TargetMirrors t net o → SameTarget told_of_link (told_of_net net) t t'
-    → HoldsTarget told_of_link r t' → PlanStays (told_of_net net) (told_of_net net') outer (is_some (reached_at r.decisions)) → TargetMirrors t' net' o
-target-still None None net net' o r outer h same holds plan =
-    plan-same net net' o h (plan-stays (told_of_net net) (told_of_net net') outer (is_some (reached_at r.decisions)) (ap (λ (x : Option Endpoint). is_some x) holds.0) plan)
-target-still (Some l) None net net' o r outer h same holds plan = absurd same
-target-still t (Some l') net net' o r outer h same holds plan = target-behind t net o l' h same
+target-still : (R W S : Type 0) (t t' : Option LinkInMemory) (net net' : NetInMemory) (o : Outside) (r : Record) (outer : Outer) (ev : TurnEvent) (c f : Option Kind) → TargetMirrors t net o
+    → SameTarget told_of_link (told_of_net net) t t' → TriedTarget (λ (l : LinkInMemory). l.counts) (told_of_net net) t t' R W S f
+    → HoldsTarget told_of_link r t' → PlanStays (told_of_net net) (told_of_net net') outer (is_some (reached_at r.decisions)) → TargetMirrors t' net' (after_turn ev (failed_calls c f) o)
+target-still R W S None None net net' o r outer ev c f h same tried holds plan =
+    plan-same net net' o ev c f h tried.0 (plan-stays (told_of_net net) (told_of_net net') outer (is_some (reached_at r.decisions)) (ap (λ (x : Option Endpoint). is_some x) holds.0) plan)
+target-still R W S (Some l) None net net' o r outer ev c f h same tried holds plan = absurd same
+target-still R W S None (Some l') net net' o r outer ev c f h same tried holds plan = (
+  left-is ev (failed_calls c f) l' o (target-behind None net o l' h same),
+  tried.2.left (due_on Object.Target o.faults) (tried.1 (record { outcome = net.outcome; link = told_of_link net.link; due = net.link.counts.due }) refl ∙ h.1)
+      ∙ ap (λ (due : Kinds). Some due) (sym (due-left-t c f o.faults)),
+)
+target-still R W S (Some l) (Some l') net net' o r outer ev c f h same tried holds plan = (
+  left-is ev (failed_calls c f) l' o (target-behind (Some l) net o l' h same),
+  tried.left (due_on Object.Target o.faults) h.1 ∙ ap (λ (due : Kinds). Some due) (sym (due-left-t c f o.faults)),
+)
 
 -- an association that goes on
 still-going : (basis : Basis) (n : ℕ) (a a' : Assoc LinkInMemory) (net net' : NetInMemory) (o : Outside) (next : Next LinkInMemory) (s : Context) (stands' : List Line → List StopBy → Type 0) (now : ℕ)
     → IsGoing basis n a net o → s.basis ≡ basis → (t : Turns told_of_link (λ (l : LinkInMemory). l.counts) stands' s now (told_of_net net) (told_of_net net') a next) → left_of next ≡ a'
-    → IsPlainRecord (s.basis).users a'.state → IsGoing basis n a' net' o
-still-going basis n a a' net net' o next s stands' now h over t is plain = subst (λ (z : Assoc LinkInMemory). IsGoing basis n z net' o) is (record {
+    → IsPlainRecord (s.basis).users a'.state → (ev : TurnEvent) → ev.came ≡ None → (tries : Tries net a (left_of next) t.acts) → IsGoing basis n a' net' (after_turn ev (failed_in tries) o)
+still-going basis n a a' net net' o next s stands' now h over t is plain ev came tries = subst (λ (z : Assoc LinkInMemory). IsGoing basis n z net' (after_turn ev (failed_in tries) o)) is (record {
   number' = ap (λ (r : Record). r.number) t.state' ∙ (t.number ∙ h.number');
   stands = record {
     plain = subst (λ (z : Assoc LinkInMemory). IsPlainRecord basis.users z.state) (sym is) (subst (λ (z : Basis). IsPlainRecord z.users a'.state) over plain);
@@ -113,31 +134,33 @@ still-going basis n a a' net net' o next s stands' now h over t is plain = subst
   };
   arrived = same-arrived a.client (left_of next).client t.same_client ∙ h.arrived;
   ends = same-ends a.client (left_of next).client t.same_client ∙ h.ends;
-  unfailing = t.same_client.unfailing ∙ h.unfailing;
+  fails = tries.tried_c.left (due_on Object.Client o.faults) h.fails ∙ ap (λ (due : Kinds). Some due) (sym (due-left-c tries.failed_c tries.failed_t o.faults));
   cap = subst (λ (m : ℕ). 64 + length o.t ≤ m) (sym (same-cap a.client (left_of next).client t.same_client)) h.cap;
   room = ap takes_nothing t.same_client.room ∙ h.room;
   served = h.served;
-  target = target-still a.target (left_of next).target net net' o t.result.left t.acts.outer h.target t.same_target t.target t.plan';
+  target = target-still _ _ _ a.target (left_of next).target net net' o t.result.left t.acts.outer ev tries.failed_c tries.failed_t h.target t.same_target tries.tried_t t.target t.plan';
   lookup = ap (λ (p : Option Lookup). elim p [ Some x ↦ looked_as x | None ↦ o.lookup ]) t.lookup_plan ∙ h.lookup;
-  quiet = h.quiet;
+  quiet = record { grams = h.quiet.grams; peer = ap (λ (x : Option Endpoint). if is_some x then None else o.peer) came ∙ h.quiet.peer };
 })
 
 slot-still : (basis : Basis) (n : ℕ) (a : Assoc LinkInMemory) (net net' : NetInMemory) (o : Outside) (next : Next LinkInMemory) (s : Context) (stands' : List Line → List StopBy → Type 0) (now : ℕ)
-    → IsGoing basis n a net o → s.basis ≡ basis → (t : Turns told_of_link (λ (l : LinkInMemory). l.counts) stands' s now (told_of_net net) (told_of_net net') a next) → IsSlot basis n (slot_of next net') o
-slot-still basis n a net net' o (Next.Wait a') s stands' now h over t = still-going basis n a a' net net' o (Next.Wait a') s stands' now h over t refl t.goes_on
-slot-still basis n a net net' o (Next.Again a') s stands' now h over t = still-going basis n a a' net net' o (Next.Again a') s stands' now h over t refl t.goes_on
-slot-still basis n a net net' o (Next.Done e) s stands' now h over t = t.goes_on
+    → IsGoing basis n a net o → s.basis ≡ basis → (t : Turns told_of_link (λ (l : LinkInMemory). l.counts) stands' s now (told_of_net net) (told_of_net net') a next)
+    → (ev : TurnEvent) → ev.came ≡ None → (tries : Tries net a (left_of next) t.acts) → IsSlot basis n (slot_of next net') (after_turn ev (failed_in tries) o)
+slot-still basis n a net net' o (Next.Wait a') s stands' now h over t ev came tries = still-going basis n a a' net net' o (Next.Wait a') s stands' now h over t refl t.goes_on ev came tries
+slot-still basis n a net net' o (Next.Again a') s stands' now h over t ev came tries = still-going basis n a a' net net' o (Next.Again a') s stands' now h over t refl t.goes_on ev came tries
+slot-still basis n a net net' o (Next.Done e) s stands' now h over t ev came tries = t.goes_on
 
 -- ---- the whole
 
--- the turn of the association at this place: its event, the world behind it, and that the replay holds what that is
+-- the turn of the association at this place: its event with the calls that failed, the world behind it, and that the replay
+-- holds what that is
 pub record IsTurned (users : List User) (s : Surroundings) (w : World) (gens : Generations) (slots : List Slot) (k : ℕ) (ev : TurnEvent) (slot : Slot) (left : Record)
     (stands' : List Line → List StopBy → Type 0) (cap now : ℕ) : Type 0 where
   pub new : World
-  pub is_turn : IsTurnOf s w 1 (suc k) ev []
+  pub failed : List Failing
+  pub is_turn : IsTurnOf s w 1 (suc k) ev failed
   pub stepped : step w (Event.Turn ev) ≡ Some new
-  pub used : used_up s ev [] ≡ s
-  pub mirrors : Mirrors users stands' cap now s new gens (slice_set slots k slot)
+  pub mirrors : Mirrors users stands' cap now (used_up s ev failed) new gens (slice_set slots k slot)
   pub line' : event_line new (Event.Turn ev) ≡ turn_line gens.seen ev (Some left)
   pub others : (j : ℕ) → (j ≡ k → ⊥) → slice_get new.records j ≡ slice_get w.records j
 
@@ -152,10 +175,11 @@ pub turned : (users : List User) (s : Surroundings) (w : World) (gens : Generati
     (stands stands' : List Line → List StopBy → Type 0) (cap now : ℕ)
     → Mirrors users stands cap now s w gens slots → numbered gens.configs gens.seen ≡ Some config → slice_get slots k ≡ Some (Slot.Going a net)
     → (t : Turns told_of_link (λ (l : LinkInMemory). l.counts) stands' (context w.users w.pubs gens.seen config w.cap w.h w.marks) now (told_of_net net) (told_of_net net') a next)
-    → last_mark (t.result).marks ≡ None
+    → last_mark (t.result).marks ≡ None → Tries net a (left_of next) t.acts
     → IsTurned users s w gens slots k (event_of 1 a.state.number now t.acts (mark_of next)) (slot_of next net') (t.result).left stands' cap now
-turned users s w gens config slots k a net net' next stands stands' cap now m is at t mark = record {
+turned users s w gens config slots k a net net' next stands stands' cap now m is at t mark tries = record {
   new = new;
+  failed = failed_in tries;
   is_turn = record {
     worker' = refl;
     number = number;
@@ -185,13 +209,13 @@ turned users s w gens config slots k a net net' next stands stands' cap now m is
       marks = m.marks;
       going = going;
       turns = t;
+      tries = tries;
       stepped = stepped;
       behind' = behind;
     });
   };
   stepped = stepped;
-  used = nothing-used s ev k o number found.1 refl going.quiet.faults;
-  mirrors = record {
+  mirrors = subst (λ (z : Surroundings). Mirrors users stands' cap now z new gens (slice_set slots k (slot_of next net'))) (sym (used-at s ev (failed_in tries) k o number found.1)) (record {
     moment' = m.moment';
     users' = m.users';
     pubs = m.pubs;
@@ -201,12 +225,12 @@ turned users s w gens config slots k a net net' next stands stands' cap now m is
         ∙ (ap (λ (rs : List Record). slice_set rs k (t.result).left) m.records
         ∙ (ap (λ (r : Record). slice_set (map record_of slots) k r) (sym (slot-record next net' ∙ t.state'))
         ∙ sym (map-set-at record_of slots k (slot_of next net'))));
-    slots' = subst (λ (os : List Outside). AreSlots (basis_of w) 1 (slice_set slots k (slot_of next net')) os) (set-same s.outsides k o found.1)
-        (slots-set (basis_of w) 1 slots s.outsides k (slot_of next net') o m.slots' (slot-still (basis_of w) (1 + k) a net net' o next _ stands' now found.2 refl t));
+    slots' = slots-set (basis_of w) 1 slots s.outsides k (slot_of next net') (after_turn ev (failed_in tries) o) m.slots'
+        (slot-still (basis_of w) (1 + k) a net net' o next _ stands' now found.2 refl t ev refl tries);
     desk = t.desk;
     cap' = m.cap';
     marks = mark;
-  };
+  });
   line' = ap (λ (x : Option Record). turn_line (unwrap_or (slice_get w.seen 1) 0) ev x) behind
       ∙ ap (λ (x : Option ℕ). turn_line (unwrap_or x 0) ev (Some (t.result).left)) saw;
   others = λ j h. ap (λ n. slice_get (set_numbered w.records n (t.result).left) j) number ∙ other-places w.records k j (t.result).left h;

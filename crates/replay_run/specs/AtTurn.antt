@@ -1,12 +1,12 @@
 -- A turn on the association at a place of the replay.
-use Rattle.std.specs.Prelude.{ℕ, ◌≡◌, Bool, true, Option, Some, None, List, [], ◌++◌, slice_set}
+use Rattle.std.specs.Prelude.{ℕ, ◌≡◌, Bool, true, Option, Some, None, List, ◌++◌, slice_set}
 use Rattle.conf_model.specs.declared.user.User.{User}
 use Rattle.session_desk.specs.Standings.{StandsFor}
 use Rattle.socks_machine.specs.declared.record.Record.{Record}
 use Rattle.socks_machine.specs.declared.world.Event.{Event}
 use Rattle.socks_machine.specs.declared.world.TurnEvent.{TurnEvent}
 use Rattle.socks_machine.specs.declared.world.World.{World}
-use Rattle.socks_machine.specs.Follows.{IsTurnOf, used_up}
+use Rattle.socks_machine.specs.Follows.{Failing, IsTurnOf, used_up}
 use Rattle.socks_machine.specs.Script.{Surroundings, is_still}
 use Rattle.socks_machine.specs.Step.{step}
 use Rattle.socks_machine.specs.Transcript.{event_line}
@@ -17,16 +17,17 @@ use Rattle.replay_run.specs.Played.{is_over}
 use Rattle.replay_run.specs.Shown.{turn_shown}
 use Rattle.std.specs.Prelude.{suc, slice_get}
 
--- the turn of the association at this place: its event, the world behind it, and that the replay holds what that is
+-- the turn of the association at this place: its event with the calls that failed, the world behind it, and that the replay
+-- holds what that is
 pub record IsTurned (users : List User) (s : Surroundings) (w : World) (k : ℕ) (old new : Replay) (still : Bool) : Type 0 where
   pub ev : TurnEvent
   pub left : Record
   pub world : World
-  pub is_turn : IsTurnOf s w 1 (suc k) ev []
+  pub failed : List Failing
+  pub is_turn : IsTurnOf s w 1 (suc k) ev failed
   pub stepped : step w (Event.Turn ev) ≡ Some world
-  pub used : used_up s ev [] ≡ s
   pub over : is_over (Event.Turn ev) ≡ true
-  pub mirrors : Mirrors users (StandsFor new.desk) new.desk.cap new.moment s world new.gens new.slots
+  pub mirrors : Mirrors users (StandsFor new.desk) new.desk.cap new.moment (used_up s ev failed) world new.gens new.slots
   pub still' : still ≡ is_still ev
   pub line : event_line world (Event.Turn ev) ≡ turn_shown old.gens.seen ev left
   pub out : new.out ≡ old.out ++ turn_shown old.gens.seen ev left

@@ -1,9 +1,11 @@
 -- What a line changes of one association.
 use Rattle.std.specs.Prelude.{◌≡◌, ◌+◌, ℕ, true, false, Option, Some, None, List, ◌++◌, length}
 use Rattle.addr_pattern.specs.declared.endpoint.Endpoint.{Endpoint}
-use Rattle.net_ends.specs.InMemory.{LinkInMemory, NetInMemory, fresh_link, fresh_net}
+use Rattle.net_ends.specs.declared.kinds.Kind.{Kind}
+use Rattle.net_ends.specs.InMemory.{LinkInMemory, NetInMemory, fresh_link, fresh_net, with_next}
 use Rattle.net_ends.specs.declared.net.Lookup.{Lookup}
 use Rattle.net_ends.specs.Nets.{DialOutcome}
+use Rattle.socks_machine.specs.declared.script.CallKind.{CallKind}
 use Rattle.socks_machine.specs.declared.world.Object.{Object}
 use Rattle.socks_machine.specs.Step.{fresh}
 use Rattle.replay_run.specs.declared.slot.Slot.{Slot}
@@ -28,6 +30,9 @@ with_end link = record link { ends = true }
 
 abbrev pub with_narrow : ℕ → LinkInMemory → LinkInMemory
 with_narrow n link = record link { room = Some n }
+
+abbrev pub with_failure : Kind → LinkInMemory → LinkInMemory
+with_failure kind link = with_next link kind
 
 abbrev pub with_found : Lookup → NetInMemory → NetInMemory
 with_found outcome net = record net { lookup = outcome }
@@ -68,6 +73,26 @@ abbrev pub with_side_narrow : Object → ℕ → Slot → Slot
 with_side_narrow Object.Client n slot = with_client_narrow n slot
 with_side_narrow Object.Target n slot = with_target_narrow n slot
 with_side_narrow _ n slot = slot
+
+-- the kind of call on a link that a line names
+abbrev pub kind_of : CallKind → Kind
+kind_of CallKind.Reading = Kind.Read
+kind_of CallKind.Writing = Kind.Write
+kind_of CallKind.Shutting = Kind.Shut
+
+-- the next call of this kind on a side's link fails
+abbrev pub with_client_failure : Kind → Slot → Slot
+with_client_failure kind (Slot.Going a net) = Slot.Going (record a { client = with_failure kind a.client }) net
+with_client_failure kind slot = slot
+
+abbrev pub with_target_failure : Kind → Slot → Slot
+with_target_failure kind (Slot.Going a net) = Slot.Going (record a { target = change_target (with_failure kind) a.target }) (change_net (with_failure kind) a.target net)
+with_target_failure kind slot = slot
+
+abbrev pub with_side_failure : Object → Kind → Slot → Slot
+with_side_failure Object.Client kind slot = with_client_failure kind slot
+with_side_failure Object.Target kind slot = with_target_failure kind slot
+with_side_failure _ kind slot = slot
 
 abbrev pub with_plan : DialOutcome → Slot → Slot
 with_plan outcome (Slot.Going a net) = Slot.Going a (with_outcome outcome net)

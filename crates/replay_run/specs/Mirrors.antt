@@ -1,4 +1,5 @@
 -- What a replay holds, beside the world and the outside of its script.
+use Rattle.std.specs.List.{list_any}
 use Rattle.std.specs.Prelude.{ℕ, zero, suc, ◌≡◌, ◌<◌, ◌≤◌, ◌+◌, Bool, true, false, Option, Some, None, List, [], ◌∷◌, length, map, All}
 use Rattle.addr_pattern.specs.declared.addr.Addr.{Addr}
 use Rattle.addr_pattern.specs.declared.endpoint.Endpoint.{Endpoint}
@@ -7,6 +8,7 @@ use Rattle.conf_model.specs.declared.user.User.{User}
 use Rattle.conf_model.specs.Plain.{IsPlain}
 use Rattle.rule_list.specs.Numbers.{FitsNumbers}
 use Rattle.generation.specs.Published.{Generations}
+use Rattle.net_ends.specs.declared.kinds.Kinds.{Kinds}
 use Rattle.net_ends.specs.InMemory.{LinkInMemory, NetInMemory, told_of_link}
 use Rattle.socks_machine.specs.declared.cause.StopBy.{StopBy}
 use Rattle.socks_machine.specs.declared.lines.Line.{Line}
@@ -17,7 +19,9 @@ use Rattle.socks_machine.specs.Basis.{Basis}
 use Rattle.socks_machine.specs.History.{last_mark}
 use Rattle.socks_machine.specs.Inputs.{is_served_input}
 use Rattle.socks_machine.specs.Phase.{is_udp}
-use Rattle.socks_machine.specs.Script.{Outside, Surroundings}
+use Rattle.socks_machine.specs.declared.script.CallKind.{CallKind}
+use Rattle.socks_machine.specs.Follows.{Failing}
+use Rattle.socks_machine.specs.Script.{Outside, Surroundings, is_fault}
 use Rattle.socks_machine.specs.Step.{basis_of, fresh}
 use Rattle.socks_machine.specs.Taking.{holds}
 use Rattle.assoc_core.specs.declared.assoc.Assoc.{Assoc}
@@ -33,7 +37,18 @@ use Rattle.replay_script.specs.declared.state.State.{State}
 pub record Quiet (o : Outside) : Type 0 where
   pub grams : o.grams ≡ []
   pub peer : o.peer ≡ None
-  pub faults : o.faults ≡ []
+
+-- which kinds of calls on the link of this object are to fail
+abbrev pub due_on : Object → List Failing → Kinds
+due_on x faults = record {
+  reads = list_any (is_fault x CallKind.Reading) faults;
+  writes = list_any (is_fault x CallKind.Writing) faults;
+  shuts = list_any (is_fault x CallKind.Shutting) faults;
+}
+
+-- those calls are due to fail on this link that the script says of the object
+abbrev pub FailsAs : LinkInMemory → Object → Outside → Type 0
+FailsAs link x o = link.counts.due ≡ Some (due_on x o.faults)
 
 -- whether a write that takes so many bytes at most takes nothing
 abbrev pub takes_nothing : Option ℕ → Bool
@@ -46,23 +61,22 @@ takes_nothing (Some (suc n)) = false
 pub record TargetIs (link : LinkInMemory) (o : Outside) : Type 0 where
   pub arrived : link.arrived ≡ o.t
   pub ends : link.ends ≡ o.end_t
-  pub unfailing : link.unfailing ≡ true
   pub cap : length o.c ≤ link.cap
   pub room : takes_nothing link.room ≡ holds Object.Target o.no_room
 
--- the target's link is there, or waits for the dial, which comes out as the script says
+-- the target's link is there, or waits for the dial, which comes out as the script says; its calls fail as the script says
 abbrev pub TargetMirrors : Option LinkInMemory → NetInMemory → Outside → Type 0
-TargetMirrors None net o = TargetIs net.link o × (outer_of net.outcome ≡ o.dial)
-TargetMirrors (Some link) net o = TargetIs link o
+TargetMirrors None net o = TargetIs net.link o × FailsAs net.link Object.Target o × (outer_of net.outcome ≡ o.dial)
+TargetMirrors (Some link) net o = TargetIs link o × FailsAs link Object.Target o
 
--- the client's link has room for all replies and for all that arrives from the target, and its writes take nothing where the
--- script says so; a lookup comes out as the script says
+-- the client's link has room for all replies and for all that arrives from the target, its writes take nothing where the script
+-- says so, and its calls fail as it says; so does a lookup come out
 pub record IsGoing (basis : Basis) (number : ℕ) (a : Assoc LinkInMemory) (net : NetInMemory) (o : Outside) : Type 0 where
   pub number' : a.state.number ≡ number
   pub stands : Stands told_of_link basis a
   pub arrived : a.client.arrived ≡ o.c
   pub ends : a.client.ends ≡ o.end_c
-  pub unfailing : a.client.unfailing ≡ true
+  pub fails : FailsAs a.client Object.Client o
   pub cap : 64 + length o.t ≤ a.client.cap
   pub room : takes_nothing a.client.room ≡ holds Object.Client o.no_room
   pub served : is_served_input basis.users o.c ≡ true

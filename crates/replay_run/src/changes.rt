@@ -1,15 +1,16 @@
 ghost use Rattle.std.specs.Prelude.{◌≡◌, IfOk, List as Items};
 ghost use Rattle.conf_model.specs.declared.user.User.{User as SomeUser};
 ghost use Rattle.net_ends.specs.Plans.{planned};
-ghost use Rattle.socks_machine.specs.declared.script.ScriptLine.TheVariants.{Client, Target, ClientEnd, TargetEnd, Room, Lookup as LookupLine, Dial};
+ghost use Rattle.socks_machine.specs.declared.script.ScriptLine.TheVariants.{Client, Target, ClientEnd, TargetEnd, Room, Fault, Lookup as LookupLine, Dial};
 ghost use Rattle.replay_script.specs.Conditions.{IsServedLookup, IsServedOutcome};
 ghost use Rattle.assoc_core.specs.Turns.{looked_as, outer_of};
 ghost use Rattle.replay_run.specs.Behind.{GoesBehind, IsDue};
+ghost use Rattle.replay_run.specs.Changes.{kind_of as kind_of_call};
 
 use crate::slot::Slot;
 use crate::state::Replay;
-use net_ends::{DialPlan, Lookup};
-use socks_machine::{Object, Outer};
+use net_ends::{DialPlan, Kind, Lookup};
+use socks_machine::{CallKind, Object, Outer};
 use std::alloc::AllocError;
 
 /// The plan of a dial that is to come out so.
@@ -33,6 +34,17 @@ fn found_of(outer: Outer) -> Lookup
         Outer::Looked(Some(addr)) => Lookup::Found(addr),
         Outer::Failed => Lookup::Failed,
         _ => Lookup::NotFound,
+    }
+}
+
+/// The kind of call on a link that a line names.
+fn kind_of(call: CallKind) -> Kind
+    ensures { result ≡ kind_of_call call }
+{
+    match call {
+        CallKind::Reading => Kind::Read,
+        CallKind::Writing => Kind::Write,
+        CallKind::Shutting => Kind::Shut,
     }
 }
 
@@ -91,6 +103,17 @@ impl Replay {
         let at = (number - 1) as usize;
         let mut slot = self.slots.replace(at, Slot::Away);
         slot.narrow(side, most as usize);
+        self.slots.set(at, slot);
+    }
+
+    /// The line `fault`.
+    pub fn fault(&mut self, number: u64, side: Object, call: CallKind)
+        requires due { IsDue (Fault number side call) self.old }
+        ensures { (users : Items SomeUser) → GoesBehind users (Fault number side call) self.old self.new }
+    {
+        let at = (number - 1) as usize;
+        let mut slot = self.slots.replace(at, Slot::Away);
+        slot.fail(side, kind_of(call));
         self.slots.set(at, slot);
     }
 

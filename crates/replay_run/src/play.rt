@@ -86,6 +86,7 @@ impl Replay {
             ScriptLine::ClientEnd(number) => self.client_end(*number),
             ScriptLine::TargetEnd(number) => self.target_end(*number),
             ScriptLine::Room(number, side, most) => self.room(*number, *side, *most),
+            ScriptLine::Fault(number, side, call) => self.fault(*number, *side, *call),
             ScriptLine::Lookup(number, outer) => self.lookup(*number, *outer),
             ScriptLine::Dial(number, outer) => self.dial(*number, *outer),
             ScriptLine::Now(now) => self.now(*now),

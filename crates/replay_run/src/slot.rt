@@ -1,9 +1,9 @@
 ghost use Rattle.std.specs.Prelude.{◌≡◌, IfOk};
 ghost use Rattle.net_ends.specs.Plans.{planned};
-ghost use Rattle.replay_run.specs.Changes.{IsUnended, MayArrive, MayArriveAtTarget, change_net, change_target, with_arrival, with_bytes, with_client_end, with_client_narrow, with_lookup, with_plan, with_room, with_side_narrow, with_target_arrival, with_target_end, with_target_narrow};
+ghost use Rattle.replay_run.specs.Changes.{IsUnended, MayArrive, MayArriveAtTarget, change_net, change_target, with_arrival, with_bytes, with_client_end, with_client_failure, with_client_narrow, with_lookup, with_plan, with_room, with_side_failure, with_side_narrow, with_target_arrival, with_target_end, with_target_failure, with_target_narrow};
 
 use assoc_core::{Assoc, Ended};
-use net_ends::{DialPlan, Lookup, MemLink, MemNet};
+use net_ends::{DialPlan, Kind, Lookup, MemLink, MemNet};
 use socks_machine::Object;
 use std::alloc::AllocError;
 
@@ -133,6 +133,40 @@ impl Slot {
         match side {
             Object::Client => self.narrow_client(most),
             Object::Target => self.narrow_target(most),
+            _ => {}
+        }
+    }
+
+    /// The next call of this kind on the client's link fails.
+    pub fn fail_client(&mut self, kind: Kind)
+        ensures { self.new ≡ with_client_failure kind self.old }
+    {
+        match self {
+            Slot::Going { assoc, net } => assoc.client.fail_next(kind),
+            _ => {}
+        }
+    }
+
+    /// The next call of this kind on the target's link fails.
+    pub fn fail_target(&mut self, kind: Kind)
+        ensures { self.new ≡ with_target_failure kind self.old }
+    {
+        match self {
+            Slot::Going { assoc, net } => match &mut assoc.target {
+                None => net.fail_next(kind),
+                Some(link) => link.fail_next(kind),
+            },
+            _ => {}
+        }
+    }
+
+    /// The next call of this kind on this side's link fails.
+    pub fn fail(&mut self, side: Object, kind: Kind)
+        ensures { self.new ≡ with_side_failure side kind self.old }
+    {
+        match side {
+            Object::Client => self.fail_client(kind),
+            Object::Target => self.fail_target(kind),
             _ => {}
         }
     }

@@ -15,7 +15,7 @@ impl Wire for NoWire {
 
     ghost told = { λ _. untold };
 
-    ghost counts = { λ wire. record { faults = wire.faults; idle_reads = 0; idle_writes = 0 } };
+    ghost counts = { λ wire. record { faults = wire.faults; idle_reads = 0; idle_writes = 0; due = None } };
 
     fn read(&mut self, _into: &mut [u8]) -> Taking {
         self.faults = self.faults.saturating_add(1);
@@ -66,7 +66,7 @@ impl Caller for NoCaller {
     ghost told = { λ caller. record {
       calls = None;
       plan = None;
-      returned = option_map (λ wire. returned_of untold (record { faults = wire.faults; idle_reads = 0; idle_writes = 0 })) caller.returned;
+      returned = option_map (λ wire. returned_of untold (record { faults = wire.faults; idle_reads = 0; idle_writes = 0; due = None })) caller.returned;
     } };
 
     ghost counts = { λ caller. record { refused = 0; no_host = 0; no_net = 0; faults = caller.faults } };

@@ -4,6 +4,7 @@ use std::alloc::Global;
 
 mod checks;
 mod decisions;
+mod failing_calls;
 mod failures;
 mod logins;
 mod moments;

@@ -164,7 +164,8 @@ const LINES: &[&str] = &[
     "now\n",
     "now 01\n",
     "now 18446744073709551616\n",
-    "fault 1 client read\n",
+    "fault 2 client read\n",
+    "fault 1 door accept\n",
 ];
 
 /// Further lines of a script, the last of which comes too early or too late.

@@ -21,6 +21,9 @@ target_end-requires c = record { due = due-as c.args.line.now _ c.args.self.now 
 pub room-requires : goal.room-requires
 room-requires c = record { due = due-as c.args.line.now _ c.args.self.now (c.in-Room.is) c.requires.due }
 
+pub fault-requires : goal.fault-requires
+fault-requires c = record { due = due-as c.args.line.now _ c.args.self.now (c.in-Fault.is) c.requires.due }
+
 pub lookup-requires : goal.lookup-requires
 lookup-requires c = record { due = due-as c.args.line.now _ c.args.self.now (c.in-Lookup.is) c.requires.due }
 

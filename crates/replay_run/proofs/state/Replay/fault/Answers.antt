@@ -1,0 +1,29 @@
+use Rattle.std.proofs.Common.{Bool, true}
+use Rattle.replay_run.specs.Changes.{with_side_failure}
+use Rattle.socks_machine.specs.declared.script.ScriptLine.{ScriptLine}
+use Rattle.replay_script.specs.declared.state.Side.{Side}
+use Rattle.socks_machine.specs.Step.{basis_of}
+use Rattle.replay_run.specs.declared.slot.Slot.{Slot}
+use Rattle.replay_run.proofs.Changing.{changed, fault-changes, place-of, place-there, put-back, still-there}
+use Rattle.replay_run.proofs.state.Replay.fault.Goals as goal
+
+abbrev may_be_open : Side → Bool
+may_be_open side = true
+
+pub replace-slot-requires : goal.replace-slot-requires
+replace-slot-requires c = let d = c.requires.due in
+    place-there (basis_of d.behind.w) c.args.number may_be_open d.state.sides d.behind.s.outsides c.args.self.now.slots
+    (place-of (ScriptLine.Fault c.args.number c.args.side c.args.call) c.args.self.now c.args.number may_be_open d d.allowed)
+
+pub set-requires : goal.set-requires
+set-requires c = let d = c.requires.due in
+    still-there c.args.self.now.slots c.replace-slot.new.self _ Slot.Away
+    (place-there (basis_of d.behind.w) c.args.number may_be_open d.state.sides d.behind.s.outsides c.args.self.now.slots
+    (place-of (ScriptLine.Fault c.args.number c.args.side c.args.call) c.args.self.now c.args.number may_be_open d d.allowed)) c.replace-slot.ensures.after
+
+pub returns : goal.returns
+returns c = λ users script lines state form allowed has behind.
+    changed users script lines state c.args.self.now c.set.new.self (ScriptLine.Fault c.args.number c.args.side c.args.call) c.args.number may_be_open _ _ (with_side_failure c.args.side c.kind_of.result) behind
+    (fault-changes (basis_of behind.w) c.args.number c.args.side c.args.call c.kind_of.result form c.kind_of.ensures) allowed
+    (put-back c.args.self.now.slots c.replace-slot.new.self c.set.new.self _ c.replace-slot.result Slot.Away c.fail.new.self (with_side_failure c.args.side c.kind_of.result)
+    c.replace-slot.ensures.value c.replace-slot.ensures.after c.fail.ensures c.set.ensures)
