@@ -171,6 +171,7 @@ fresh-turns told counts stands users pubs generation config cap h marks now net 
       lookup_plan = refl;
       plan' = refl;
       outer' = tt;
+      counted = refl;
       stops_c = λ worker. StopsReading.unread (record { behind = r; taken' = refl; unread' = refl });
       stops_t = λ worker. StopsReading.unread (record { behind = r; taken' = refl; unread' = refl });
       reads_end_c = λ worker h1. absurd (cc);
@@ -223,6 +224,7 @@ fresh-turns told counts stands users pubs generation config cap h marks now net 
       lookup_plan = refl;
       plan' = refl;
       outer' = tt;
+      counted = refl;
       stops_c = λ worker. StopsReading.unread (record { behind = r; taken' = refl; unread' = refl });
       stops_t = λ worker. StopsReading.unread (record { behind = r; taken' = refl; unread' = refl });
       reads_end_c = λ worker h1. absurd (cc);

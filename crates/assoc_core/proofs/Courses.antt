@@ -170,6 +170,7 @@ over-desk told counts stands h marks s now net net' a next stood t = record {
   lookup_plan = t.lookup_plan;
   plan' = t.plan';
   outer' = t.outer';
+  counted = t.counted;
   stops_c = t.stops_c;
   stops_t = t.stops_t;
   reads_end_c = t.reads_end_c;

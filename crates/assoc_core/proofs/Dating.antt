@@ -34,7 +34,7 @@ use Rattle.assoc_core.specs.Closing.{Closed}
 use Rattle.assoc_core.specs.Moment.{movement, moment, at_moment, limit_of, is_late_by, cause_by}
 use Rattle.assoc_core.specs.Plain.{owed_c, owed_t, opening_owed, refused_at, plain_to_client}
 use Rattle.assoc_core.specs.Stands.{GoesDirect, Holds, HoldsTarget, EndsBehind, GivesFirst}
-use Rattle.assoc_core.specs.Turns.{Acts, Turns, GoesOn, event_of, context, mark_of, left_of, IsIdle, IsFull, IsThereAnd, SameOutside, SameTarget, DialsAre, LookupsAre, PlanStays, IsOuterOf, TriedTarget}
+use Rattle.assoc_core.specs.Turns.{Acts, Turns, GoesOn, event_of, context, mark_of, left_of, IsIdle, IsFull, IsThereAnd, SameOutside, SameTarget, DialsAre, LookupsAre, PlanStays, IsOuterOf, CountRose, RoseTarget, TriedTarget}
 use Rattle.assoc_core.proofs.Lateness.{waits-uncalled, CalledNothing, turns-late, cause_late}
 use Rattle.assoc_core.proofs.Moments.{turns-at}
 use Rattle.assoc_core.proofs.Movements.{Moves, aged-moment, late-is, limit-is, plain-dated}
@@ -68,6 +68,7 @@ pub record Redone {L : Type 0} (told : L → Told) (counts : L → Counts) (stan
   pub lookups : LookupsAre net.lookups net'.lookups (phase s.basis t.behind) outer
   pub plan' : PlanStays net net' outer (is_some (reached_at result.left.decisions))
   pub outer' : IsOuterOf net (phase s.basis t.behind) outer
+  pub counted : CountRose net.counts net'.counts outer
 
 held-dated : {L : Type 0} (told : L → Told) (r : Record) (since : ℕ) (cause at_close : Option Cause) (done : Bool) (target : Option L) → HoldsTarget told r target
     → HoldsTarget told (record r { since = since; cause = cause; at_close = at_close; done = done }) target
@@ -108,6 +109,7 @@ redone {L} told counts stands stands' s now net net' a next next' t outer h = re
   lookup_plan = t.lookup_plan;
   plan' = h.plan';
   outer' = h.outer';
+  counted = h.counted;
   stops_c = λ worker. stops-as a.state.end_c t.acts.end_c t.acts.idle_c t.acts.c t.acts.fault _ _ _ _
       (λ f. record { behind = f.behind; taken' = f.taken'; relays = f.relays; waits = subst (λ (r : Record). pipe_size ≤ waiting_for_target s.basis r) (sym h.left') f.waits })
       (λ u. record { behind = u.behind; taken' = u.taken'; unread' = u.unread' }) (t.stops_c worker);
@@ -131,7 +133,7 @@ redone {L} told counts stands stands' s now net net' a next next' t outer h = re
     room = λ relays. subst (λ (r : Record). waiting_for_client s.basis r < pipe_size) (sym h.left') (k.room relays);
   };
   idle_c = λ e. subst (λ (l : L). IsIdle (told l) × Rose (counts a.client).idle_reads (counts l).idle_reads) (sym h.client) (t.idle_c e);
-  idle_t = λ e. subst (λ (l : Option L). IsThereAnd l (λ link. IsIdle (told link))) (sym h.target) (t.idle_t e);
+  idle_t = λ e. subst (λ (l : Option L). IsThereAnd l (λ link. IsIdle (told link)) × RoseTarget (λ link. (counts link).idle_reads) a.target l) (sym h.target) (t.idle_t e);
   full_c = λ e. let f = t.full_c e in (
     subst (λ (l : L). IsFull (told l)) (sym h.client) f.0,
     subst (λ (l : L). Rose (counts a.client).idle_writes (counts l).idle_writes) (sym h.client) f.1,
@@ -139,7 +141,8 @@ redone {L} told counts stands stands' s now net net' a next next' t outer h = re
   );
   full_t = λ e. let f = t.full_t e in (
     subst (λ (l : Option L). IsThereAnd l (λ link. IsFull (told link))) (sym h.target) f.0,
-    subst (λ (r : Record). length r.sent_t < length (owed_t r)) (sym h.left') f.1,
+    subst (λ (l : Option L). RoseTarget (λ link. (counts link).idle_writes) a.target l) (sym h.target) f.1,
+    subst (λ (r : Record). length r.sent_t < length (owed_t r)) (sym h.left') f.2,
   );
   room_c = t.room_c;
   room_t = t.room_t;
@@ -197,6 +200,7 @@ turns-dated told counts stands s now net net' a next next' t direct mark state c
       lookups = t.lookups;
       plan' = t.plan';
       outer' = t.outer';
+      counted = t.counted;
     })
   where
     left : Record
@@ -302,6 +306,7 @@ late-dated {L} told counts stands stands' users pubs generation config cap h mar
       lookups = no-lookups net net' _ _ logged nothing.nothing t.lookups;
       plan' = subst (λ (o : Outer). PlanStays net net' o (is_some (reached_at t.result.left.decisions))) nothing.nothing t.plan';
       outer' = tt;
+      counted = subst (λ (o : Outer). CountRose net.counts net'.counts o) nothing.nothing t.counted;
     })
   where
     s : Context

@@ -35,7 +35,7 @@ use Rattle.assoc_core.specs.Closing.{Closed}
 use Rattle.assoc_core.specs.Draining.{SendsClient, SendsTarget}
 use Rattle.assoc_core.specs.Plain.{IsPlainRecord, HasDecided, Untargeted, owed_c, owed_t, plain_to_target, prelude_of, Sought, behind_lookup}
 use Rattle.assoc_core.specs.Stands.{Holds, HoldsTarget, Stands, EndsBehind, GivesFirst}
-use Rattle.assoc_core.specs.Turns.{context, Turns, left_of, IsFull, IsThereAnd, IsUnfailing, TakesNothing, SameOutside, SameTarget, FaultIs, TriedTarget, is_write}
+use Rattle.assoc_core.specs.Turns.{context, Turns, left_of, IsFull, IsThereAnd, IsUnfailing, TakesNothing, SameOutside, SameTarget, FaultIs, TriedTarget, RoseTarget, is_write}
 use Rattle.assoc_core.proofs.Drains.{drained, Drains, DrainFault, DrainTurn, drain-closes, drain-waits, drain-turns}
 use Rattle.assoc_core.proofs.LinksHeld.{holds-given, ends-given, first-given, outside-given}
 use Rattle.assoc_core.proofs.PassLaws.{full-of, unsound-of, nothing-of, sound-written}
@@ -111,7 +111,7 @@ pub record DrainedTarget {L : Type 0} (told : L → Told) (counts : L → Counts
   pub same : SameTarget told net target target'
   pub stuck : TakesNothing told net target → part ≡ []
   pub nothing : is_sound give ≡ true → is_nothing rest ≡ not (is_full give)
-  pub full : is_full give ≡ true → (0 < length rest) × IsThereAnd target' (λ link. IsFull (told link))
+  pub full : is_full give ≡ true → (0 < length rest) × IsThereAnd target' (λ link. IsFull (told link)) × RoseTarget (λ link. (counts link).idle_writes) target target'
   pub tried : TriedTarget counts net target target' (Unit {0}) ((part ≡ []) × (is_full give ≡ false)) (Unit {0}) (failed_giving give)
   pub written : is_sound give ≡ false → is_write (failed_giving give) ≡ true
   pub unsound : is_sound give ≡ false → (0 < length rest) × (has_target old ≡ true) × (IsUnfailing told net target → ⊥)
@@ -149,7 +149,7 @@ target-drained {L} users told counts net old new sent_c (Some link) (Some link')
   same = outside-given sends.gives;
   stuck = sends.gives.stuck;
   nothing = λ h. nothing-of sends.gives refl (sound-written give h);
-  full = λ h. let f = full-of sends.gives h in (f.0, f.1);
+  full = λ h. full-of sends.gives h;
   tried = tried-as sends.gives.tried (λ x. x) (λ x. (added-none _ _ _ sends.gives.after' x.0, x.1)) (λ x. tt);
   written = unsound-write give sends.gives;
   unsound = λ h. (some-unsent sends.gives h, plain-target users old held.0.0 plain held.0.1, λ fine. clash ((told link).unfailing) fine (sym (outside-given sends.gives).unfailing ∙ (unsound-of sends.gives h).0));

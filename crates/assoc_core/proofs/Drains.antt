@@ -32,14 +32,14 @@ use Rattle.assoc_core.specs.declared.assoc.Assoc.{Assoc}
 use Rattle.assoc_core.specs.declared.assoc.Next.{Next}
 use Rattle.assoc_core.specs.Plain.{IsPlainRecord, owed_c, owed_t}
 use Rattle.assoc_core.specs.Stands.{GoesDirect, Holds, HoldsTarget, EndsBehind, GivesFirst}
-use Rattle.assoc_core.specs.Turns.{Acts, event_of, context, links, Turns, GoesOn, left_of, mark_of, StopsReading, IsFull, IsThereAnd, IsUnfailing, TakesNothing, SameOutside, SameTarget, FaultIs, TriedTarget, is_write}
+use Rattle.assoc_core.specs.Turns.{Acts, event_of, context, links, Turns, GoesOn, left_of, mark_of, StopsReading, IsFull, IsThereAnd, IsUnfailing, TakesNothing, SameOutside, SameTarget, FaultIs, TriedTarget, RoseTarget, is_write}
 use Rattle.assoc_core.proofs.LinksHeld.{short}
 use Rattle.assoc_core.proofs.PlainRecords.{decided-forms, closing-phase, plain-owes-client, plain-owes-target}
 use Rattle.assoc_core.proofs.Rests.{rests-with}
 use Rattle.assoc_core.proofs.Tryings.{target-tried-as, tried-as}
 use Rattle.assoc_core.proofs.RelayCloses.{closes-with}
 use Rattle.assoc_core.proofs.RelayEnds.{idle-c, idle-t, both, drop-sent, something}
-use Rattle.assoc_core.proofs.RelayTurns.{IsDesk, desk-dials, desk-lookups, desk-plan, desk-outer}
+use Rattle.assoc_core.proofs.RelayTurns.{IsDesk, desk-dials, desk-lookups, desk-plan, desk-outer, desk-counted}
 
 -- what such a turn does
 abbrev pub drain_acts : List ℕ → List ℕ → Bool → Bool → Option Object → Bool → Outer → Acts
@@ -221,7 +221,7 @@ pub record DrainTurn {L : Type 0} (told : L → Told) (counts : L → Counts) (b
   pub stuck_c : (told a.client).room ≡ Some 0 → part_c ≡ []
   pub stuck_t : TakesNothing told net a.target → part_t ≡ []
   pub is_full_c : full_c ≡ true → (0 < length rest_c) × IsFull (told (left_of next).client) × Rose (counts a.client).idle_writes (counts (left_of next).client).idle_writes
-  pub is_full_t : full_t ≡ true → (0 < length rest_t) × IsThereAnd (left_of next).target (λ link. IsFull (told link))
+  pub is_full_t : full_t ≡ true → (0 < length rest_t) × IsThereAnd (left_of next).target (λ link. IsFull (told link)) × RoseTarget (λ link. (counts link).idle_writes) a.target (left_of next).target
   pub failed_c : Option Kind
   pub failed_t : Option Kind
   pub tried_c : Tried (counts a.client) (counts (left_of next).client) (Unit {0}) ((part_c ≡ []) × (full_c ≡ false)) (Unit {0}) failed_c
@@ -271,6 +271,7 @@ drain-turns {L} told counts stands users pubs generation config cap h marks now 
   lookup_plan = refl;
   plan' = desk-plan net outer _ desk;
   outer' = desk-outer net _ outer desk;
+  counted = desk-counted net.counts outer desk;
   stops_c = λ worker. StopsReading.unread (record { behind = a.state; taken' = refl; unread' = ap (reads_client (socks users pubs) (links false false) (links full_c full_t) a.state) closing-a });
   stops_t = λ worker. StopsReading.unread (record { behind = a.state; taken' = refl; unread' = ap (reads_target a.state) closing-a });
   reads_end_c = λ worker e. absurd (cc);
@@ -278,7 +279,7 @@ drain-turns {L} told counts stands users pubs generation config cap h marks now 
   idle_c = λ e. absurd (cc);
   idle_t = λ e. absurd (cc);
   full_c = λ e. let f = k.is_full_c e in (f.1, f.2, short _ rest_c _ k.drains.owes_c f.0);
-  full_t = λ e. let f = k.is_full_t e in (f.1, short _ rest_t _ k.drains.owes_t f.0);
+  full_t = λ e. let f = k.is_full_t e in (f.1, f.2, short _ rest_t _ k.drains.owes_t f.0);
   room_c = λ e. ap (λ (z : List ℕ). length z) (k.stuck_c e);
   room_t = λ e. ap (λ (z : List ℕ). length z) (k.stuck_t e);
   failed_c = k.failed_c;

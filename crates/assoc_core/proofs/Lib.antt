@@ -10,6 +10,7 @@ pub mod GrantTurns
 pub mod HeardTurns
 pub mod Hearings
 pub mod Later
+pub mod Lending
 pub mod Judging
 pub mod LinksHeld
 pub mod Moments

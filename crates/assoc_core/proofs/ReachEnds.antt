@@ -7,7 +7,7 @@ use Rattle.conf_model.specs.declared.user.User.{User}
 use Rattle.net_ends.specs.declared.kinds.Kind.{Kind}
 use Rattle.net_ends.specs.Counts.{Counts, Rose}
 use Rattle.net_ends.specs.Faults.{Tried}
-use Rattle.net_ends.specs.Nets.{DialOutcome, NetTold, Plan, SameLookups, dialled, NetCounts}
+use Rattle.net_ends.specs.Nets.{DialCause, DialOutcome, NetTold, Plan, SameLookups, dialled}
 use Rattle.net_ends.specs.Told.{Told}
 use Rattle.rule_list.specs.declared.facts.Facts.{Facts}
 use Rattle.rule_list.specs.declared.verdict.Verdict.{Verdict}
@@ -40,7 +40,7 @@ use Rattle.assoc_core.proofs.ReachTurns.{judged-in, Reaches, FailedWrite, dialli
 use Rattle.assoc_core.proofs.Sendings.{more-nil}
 use Rattle.assoc_core.proofs.StandsLaws.{same-target}
 use Rattle.assoc_core.proofs.TalkTurns.{with_state}
-use Rattle.assoc_core.proofs.Tryings.{tried-none, tried-as, added-none}
+use Rattle.assoc_core.proofs.Tryings.{tried-none, tried-as, added-none, rose-new}
 
 -- ---- from the turn with the explicit record
 
@@ -110,6 +110,7 @@ refuses-turn {L = L} told counts users pubs generation config most h marks net n
       lookups = k.lookups;
       planned = k.planned;
       kept = k.kept;
+      cause = k.cause;
       told' = sends'.told' ∙ ap (λ (l : L). told_taken (told l) sends'.bytes) k.client';
       stuck_c = λ e. sends'.stuck (ap (λ (l : L). (told l).room) k.client' ∙ e);
       stuck_t = λ e. none-t;
@@ -185,7 +186,7 @@ pub record Greets {L : Type 0} (told : L → Told) (counts : L → Counts) (b z 
   pub target' : z.target ≡ Some link
   pub link' : told link ≡ told_taken (told new) (z.state).sent_t
   pub fills_c : full_c ≡ true → (0 < length rest_c) × IsFull (told z.client) × Rose (counts b.client).idle_writes (counts z.client).idle_writes
-  pub fills_t : full_t ≡ true → (0 < length rest_t) × IsFull (told link)
+  pub fills_t : full_t ≡ true → (0 < length rest_t) × IsFull (told link) × Rose (counts new).idle_writes (counts link).idle_writes
   pub failed_c : Option Kind
   pub failed_t : Option Kind
   pub tried_c : Tried (counts b.client) (counts z.client) (Unit {0}) ((y_c ≡ []) × (full_c ≡ false)) (Unit {0}) failed_c
@@ -216,6 +217,7 @@ greets-turn {L = L} told counts users pubs generation config most h marks net ne
       lookups = k.lookups;
       planned = k.planned;
       kept = k.kept;
+      cause = k.cause;
       told' = w.told' ∙ ap (λ (l : L). told_taken (told l) y_c) k.client';
       stuck_c = λ e. w.stuck_c (ap (λ (l : L). (told l).room) k.client' ∙ e);
       stuck_t = λ e. w.stuck_t (new-takes-nothing (subst (λ (t : Option L). TakesNothing told net t) no-target e));
@@ -224,7 +226,11 @@ greets-turn {L = L} told counts users pubs generation config most h marks net ne
           ((local, at-behind d (Some local)), (holds-new (told new) (z.state).sent_t v.fresh).0, (holds-new (told new) (z.state).sent_t v.fresh).1, (holds-new (told new) (z.state).sent_t v.fresh).2)));
       same_target = subst (λ (t : Option L). SameTarget told net a.target t) (sym w.target') (subst (λ (t : Option L). SameTarget told net t (Some link)) (sym no-target) same-link);
       fills_c = λ e. ((w.fills_c e).0, (w.fills_c e).1, subst (λ (l : L). Rose (counts l).idle_writes (counts z.client).idle_writes) k.client' (w.fills_c e).2);
-      fills_t = λ e. ((w.fills_t e).0, subst (λ (t : Option L). IsThereAnd t (λ l. IsFull (told l))) (sym w.target') (w.fills_t e).1);
+      fills_t = λ e. (
+        (w.fills_t e).0,
+        subst (λ (t : Option L). IsThereAnd t (λ l. IsFull (told l))) (sym w.target') (w.fills_t e).1,
+        rose-new (λ l. (counts l).idle_writes) (counts new).idle_writes no-target w.target' (w.fills_t e).2,
+      );
       failed_c = w.failed_c;
       failed_t = w.failed_t;
       tried_c = subst (λ (l : L). Tried (counts l) (counts z.client) (Unit {0}) ((y_c ≡ []) × (full_c ≡ false)) (Unit {0}) w.failed_c) k.client' w.tried_c;
@@ -353,13 +359,13 @@ target-unwritten Sent.Full = refl
 target-unwritten Sent.Failed = refl
 
 -- why the write to the target stopped
-pub record PayloadEnds (told : Told) (rest : List ℕ) (full failed : Bool) : Type 0 where
-  pub full' : full ≡ true → (0 < length rest) × IsFull told
+pub record PayloadEnds (told : Told) (counts counts' : Counts) (rest : List ℕ) (full failed : Bool) : Type 0 where
+  pub full' : full ≡ true → (0 < length rest) × IsFull told × Rose counts.idle_writes counts'.idle_writes
   pub failed' : failed ≡ true → (0 < length rest) × (told.unfailing ≡ false)
 
-payload-ends : (told : Told) (counts counts' : Counts) (rest : List ℕ) (outcome : Sent) → SendEnds told counts counts' rest outcome → PayloadEnds told rest (is_full outcome) (is_failed outcome)
+payload-ends : (told : Told) (counts counts' : Counts) (rest : List ℕ) (outcome : Sent) → SendEnds told counts counts' rest outcome → PayloadEnds told counts counts' rest (is_full outcome) (is_failed outcome)
 payload-ends told counts counts' rest Sent.All h = record { full' = λ e. absurd (cc); failed' = λ e. absurd (cc) }
-payload-ends told counts counts' rest Sent.Full h = record { full' = λ e. (h.0, h.1); failed' = λ e. absurd (cc) }
+payload-ends told counts counts' rest Sent.Full h = record { full' = λ e. h; failed' = λ e. absurd (cc) }
 payload-ends told counts counts' rest Sent.Failed h = record { full' = λ e. absurd (cc); failed' = λ e. (h.0, h.1) }
 
 pub sends-payload : {L : Type 0} (told : L → Told) (counts : L → Counts) (users : List User) (pubs : List Config) (generation : ℕ) (config : Config) (most : ℕ) (h : List Line) (marks : List StopBy)
@@ -411,7 +417,7 @@ sends-payload {L = L} told counts users pubs generation config most h marks net 
     sends' = subst (λ (r : Record). Sends (told new) (told link) (counts new) (counts link) [] s.sent_t (drop (prelude_of r) r.c) outcome) z-is
         (subst (λ (w : List ℕ). Sends (told new) (told link) (counts new) (counts link) w s.sent_t (drop (length w) (drop (prelude_of z.state) (z.state).c)) outcome) unsent sends)
 
-    ends : PayloadEnds (told link) sends'.rest (is_full outcome) failed
+    ends : PayloadEnds (told link) (counts new) (counts link) sends'.rest (is_full outcome) failed
     ends = payload-ends (told link) (counts new) (counts link) sends'.rest outcome sends'.ends
 
     clash : (told new).unfailing ≡ true → (told link).unfailing ≡ false → ⊥
@@ -447,18 +453,20 @@ pub record Dials {L : Type 0} (told : L → Told) (net net' : NetTold) (now : �
   pub lookups : SameLookups net net'
   pub planned : (plan : Plan) → net.plan ≡ Some plan → outcome ≡ plan.outcome
   pub kept : at_of outcome ≡ None → net'.plan ≡ net.plan
+  pub cause : DialCause net.counts net'.counts outcome
 
 -- a dial that came up
-pub up-of : {L : Type 0} (told : L → Told) (counts : L → Counts) (net net' : NetTold) (was is : NetCounts) (now : ℕ) (a : Assoc L) (to : Endpoint) (link : L) (local : Endpoint) (pushed : List Decision)
+pub up-of : {L : Type 0} (told : L → Told) (counts : L → Counts) (net net' : NetTold) (now : ℕ) (a : Assoc L) (to : Endpoint) (link : L) (local : Endpoint) (pushed : List Decision)
     → Some to ≡ option_map (λ x. x.facts.to) (granted (a.state).decisions) → pushed ≡ (a.state).decisions ++ Decision.Reached to None ∷ []
-    → DialReaches told counts net net' was is to (Reached.Up link local) → SameLookups net net' → Dials told net net' now a to pushed (DialOutcome.CameUp local)
-up-of told counts net net' was is now a to link local pushed to' pushed' dial lookups = record {
+    → DialReaches told counts net net' to (Reached.Up link local) → SameLookups net net' → Dials told net net' now a to pushed (DialOutcome.CameUp local)
+up-of told counts net net' now a to link local pushed to' pushed' dial lookups = record {
   to' = to';
   pushed' = pushed';
   dials = dial.dials ∙ ap (λ (o : DialOutcome). dialled net.dials (record { to = to; outcome = o })) dial.answer;
   lookups = lookups;
   planned = λ plan e. sym dial.answer ∙ dial.planned plan e;
   kept = λ e. absurd (some-clash local e);
+  cause = subst (λ (o : DialOutcome). DialCause net.counts net'.counts o) dial.answer dial.cause;
 }
 
 pub dialled-down : {L : Type 0} (told : L → Told) (basis : Basis) (net net' : NetTold) (now : ℕ) (a : Assoc L) (to : Endpoint) (pushed : List Decision) (o : DialOutcome) (g g' : ℕ) (rule : Option ℕ) (s : Option Sought) (facts : Facts) (verdict : Verdict) (route : Option ℕ)
@@ -487,6 +495,7 @@ dialled-down told basis net net' now a to pushed o g g' rule s facts verdict rou
   lookups = k.lookups;
   planned = k.planned;
   kept = k.kept;
+  cause = k.cause;
 }
   where
     to-is : to ≡ facts.to
@@ -518,6 +527,7 @@ dialled-up told basis net net' now a to local pushed after g g' rule s facts ver
   lookups = k.lookups;
   planned = k.planned;
   kept = k.kept;
+  cause = k.cause;
 }
   where
     to-is : to ≡ facts.to

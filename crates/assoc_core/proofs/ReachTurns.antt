@@ -9,7 +9,7 @@ use Rattle.conf_model.specs.declared.user.User.{User}
 use Rattle.net_ends.specs.declared.kinds.Kind.{Kind}
 use Rattle.net_ends.specs.Counts.{Counts, Rose}
 use Rattle.net_ends.specs.Faults.{Tried}
-use Rattle.net_ends.specs.Nets.{DialOutcome, Dial, LookedUp, NetTold, Plan, SameLookups, dialled}
+use Rattle.net_ends.specs.Nets.{DialCause, DialOutcome, Dial, LookedUp, NetCounts, NetTold, Plan, SameLookups, dialled}
 use Rattle.net_ends.specs.Told.{Told, IsFresh, more}
 use Rattle.rule_list.specs.declared.facts.Facts.{Facts}
 use Rattle.rule_list.specs.declared.verdict.Verdict.{Verdict}
@@ -35,7 +35,7 @@ use Rattle.assoc_core.specs.Plain.{IsPlainRecord, HasAsked, HasDecided, Judged, 
 use Rattle.connect_core.specs.Reaching.{cause_of}
 use Rattle.assoc_core.specs.Reaching.{HasDialled, SameDesk, at_of}
 use Rattle.assoc_core.specs.Stands.{IsConnect, GoesDirect, Stands, Holds, HoldsTarget, EndsBehind, GivesFirst}
-use Rattle.assoc_core.specs.Turns.{Turns, StopsReading, SameOutside, SameTarget, DialsAre, LookupsAre, PlanStays, IsOuterOf, IsUnfailing, TakesNothing, TriedTarget, FaultIs, IsFull, IsThereAnd, is_write, links, outer_of}
+use Rattle.assoc_core.specs.Turns.{Turns, StopsReading, SameOutside, SameTarget, DialsAre, LookupsAre, PlanStays, IsOuterOf, CountRose, RoseTarget, IsUnfailing, TakesNothing, TriedTarget, FaultIs, IsFull, IsThereAnd, is_write, links, outer_of}
 use Rattle.assoc_core.proofs.Answering.{still-left}
 use Rattle.assoc_core.proofs.PlainRecords.{passed_grant, plain-owes-client, plain-owes-target, granted-behind, unreached-behind}
 use Rattle.assoc_core.proofs.Reaching.{Dialling, connecting, dialler, at-behind, ds-behind, reached_behind, basis_of, context_of, before, behind, grant_of, phase-before, same-opening, due_t, plain-behind, payload-none, reach_acts, with_object, ReachSends, reaches-on}
@@ -324,6 +324,13 @@ outer-as d DialOutcome.NoHost net h = (refl, λ plan e. ap outer_of (h plan e))
 outer-as d DialOutcome.NoNet net h = (refl, λ plan e. ap outer_of (h plan e))
 outer-as d DialOutcome.Fault net h = (refl, λ plan e. ap outer_of (h plan e))
 
+counted-as : (o : DialOutcome) (old new : NetCounts) → DialCause old new o → CountRose old new (outer_of o)
+counted-as (DialOutcome.CameUp local) old new h = tt
+counted-as DialOutcome.WasRefused old new h = h
+counted-as DialOutcome.NoHost old new h = h
+counted-as DialOutcome.NoNet old new h = h
+counted-as DialOutcome.Fault old new h = h
+
 -- ---- its links
 
 more-is : (o : Option (List ℕ)) (held part x : List ℕ) → ((y : List ℕ) → o ≡ Some y → y ≡ held) → more o part ≡ Some x → x ≡ held ++ part
@@ -375,13 +382,14 @@ pub record Reaches {L : Type 0} (told : L → Told) (counts : L → Counts) (d :
   pub lookups : SameLookups net net'
   pub planned : (plan : Plan) → net.plan ≡ Some plan → o ≡ plan.outcome
   pub kept : at_of o ≡ None → net'.plan ≡ net.plan
+  pub cause : DialCause net.counts net'.counts o
   pub told' : told z.client ≡ told_taken (told a.client) y_c
   pub stuck_c : (told a.client).room ≡ Some 0 → y_c ≡ []
   pub stuck_t : TakesNothing told net a.target → (z.state).sent_t ≡ []
   pub target' : HoldsTarget told z.state z.target
   pub same_target : SameTarget told net a.target z.target
   pub fills_c : full_c ≡ true → (0 < length rest_c) × IsFull (told z.client) × Rose (counts a.client).idle_writes (counts z.client).idle_writes
-  pub fills_t : full_t ≡ true → (0 < length rest_t) × IsThereAnd z.target (λ link. IsFull (told link))
+  pub fills_t : full_t ≡ true → (0 < length rest_t) × IsThereAnd z.target (λ link. IsFull (told link)) × RoseTarget (λ link. (counts link).idle_writes) a.target z.target
   pub failed_c : Option Kind
   pub failed_t : Option Kind
   pub tried_c : Tried (counts a.client) (counts z.client) (Unit {0}) ((y_c ≡ []) × (full_c ≡ false)) (Unit {0}) failed_c
@@ -428,6 +436,7 @@ turns-reached told counts d net net' a z o y_c rest_c rest_t full_c full_t fault
   lookup_plan = (h.lookups).plan;
   plan' = plan-as d o net net' h.kept;
   outer' = subst (λ (p : Phase). IsOuterOf net p (outer_of o)) (sym (phase-before d)) (outer-as d o net h.planned);
+  counted = counted-as o net.counts net'.counts h.cause;
   stops_c = λ worker. StopsReading.unread (record { behind = before d; taken' = refl; unread' = ap (reads_client (basis_of d) [] (links full_c full_t) (before d)) (phase-before d) });
   stops_t = λ worker. StopsReading.unread (record { behind = before d; taken' = refl; unread' = ap (reads_target (before d)) (phase-before d) });
   reads_end_c = λ worker e. absurd (cc);
@@ -435,7 +444,7 @@ turns-reached told counts d net net' a z o y_c rest_c rest_t full_c full_t fault
   idle_c = λ e. absurd (cc);
   idle_t = λ e. absurd (cc);
   full_c = λ e. ((h.fills_c e).1, (h.fills_c e).2, short-of (d.sent ++ y_c) rest_c _ owed (h.fills_c e).0);
-  full_t = λ e. ((h.fills_t e).1, short-of (z.state).sent_t rest_t _ ((h.writes).all_t ∙ sym (ap (λ (z : Option Endpoint). plain_to_target (prelude_of (before d)) d.c z) (at-behind d (at_of o)))) (h.fills_t e).0);
+  full_t = λ e. ((h.fills_t e).1, (h.fills_t e).2, short-of (z.state).sent_t rest_t _ ((h.writes).all_t ∙ sym (ap (λ (z : Option Endpoint). plain_to_target (prelude_of (before d)) d.c z) (at-behind d (at_of o)))) (h.fills_t e).0);
   room_c = λ e. ap (λ (z : List ℕ). length z) (h.stuck_c e);
   room_t = λ e. ap (λ (z : List ℕ). length z) (h.stuck_t e);
   failed_c = h.failed_c;

@@ -4,7 +4,7 @@ use Rattle.addr_pattern.specs.declared.endpoint.Endpoint.{Endpoint}
 use Rattle.conf_model.specs.declared.config.Config.{Config}
 use Rattle.conf_model.specs.declared.user.User.{User}
 use Rattle.net_ends.specs.Counts.{Counts, Rose}
-use Rattle.net_ends.specs.Nets.{LookedUp, NetTold, Dial}
+use Rattle.net_ends.specs.Nets.{LookedUp, NetCounts, NetTold, Dial}
 use Rattle.net_ends.specs.Told.{Told}
 use Rattle.socks_machine.specs.declared.cause.Cause.{Cause}
 use Rattle.socks_machine.specs.declared.cause.StopBy.{StopBy}
@@ -33,7 +33,7 @@ use Rattle.assoc_core.specs.declared.relay.Pass.{Pass}
 use Rattle.assoc_core.specs.Carrying.{Passes, waiting_of, is_read, is_sound, is_idle, is_full, fault_of, unwritten_of, first_failed, failed_giving, failed_taking}
 use Rattle.assoc_core.specs.Plain.{IsPlainRecord, is_login_failed, owed_c, owed_t, prelude_of, replies_by}
 use Rattle.assoc_core.specs.Stands.{Holds, HoldsTarget, Stands}
-use Rattle.assoc_core.specs.Turns.{Acts, event_of, context, links, Turns, GoesOn, left_of, mark_of, DialsAre, LookupsAre, PlanStays, IsOuterOf, IsIdle, IsFull, Filled, IsThereAnd, IsUnfailing, TakesNothing, SameTarget, FaultIs}
+use Rattle.assoc_core.specs.Turns.{Acts, event_of, context, links, Turns, GoesOn, left_of, mark_of, DialsAre, LookupsAre, PlanStays, IsOuterOf, CountRose, IsIdle, IsFull, Filled, IsThereAnd, IsUnfailing, TakesNothing, SameTarget, FaultIs}
 use Rattle.assoc_core.proofs.LinksHeld.{holds-taken, holds-given, ends-given, first-given, idle-given, full-taken, outside-given, outside-taken, outside-on, short}
 use Rattle.assoc_core.proofs.PassLaws.{ended-of, idle-of, unread-of, stops-of, full-of, unsound-of, held-full, FaultTells, fault-tells, fault-none, fault-unread, fault-read, fault-first, fault-unsound-t, fault-unsound-c, sound-written}
 use Rattle.assoc_core.proofs.RelayEnds.{in-phase}
@@ -41,7 +41,7 @@ use Rattle.assoc_core.proofs.RelayRecords.{is-relayed, plain-relay-facts}
 use Rattle.assoc_core.proofs.RelaySums.{clash, Sums, summed, Begun, sum_acts, relays, replies-owe, sent-c, sent-t, sums-carried}
 use Rattle.assoc_core.proofs.Sendings.{rose-before, rose-after}
 use Rattle.assoc_core.proofs.PassKinds.{fault-kinds, target-tried, unwritten-kinds}
-use Rattle.assoc_core.proofs.Tryings.{added-none, tried-as}
+use Rattle.assoc_core.proofs.Tryings.{added-none, rose-target, tried-as}
 use Rattle.assoc_core.proofs.Waiting.{client-waits, target-waits}
 
 -- ---- the sums of a pass
@@ -128,6 +128,11 @@ pub desk-outer : (net : NetTold) (p : Phase) (outer : Outer) → IsDesk outer �
 desk-outer net p Outer.Nothing h = tt
 desk-outer net p (Outer.Desk logged) h = tt
 desk-outer net p _ h = absurd h
+
+pub desk-counted : (counts : NetCounts) (outer : Outer) → IsDesk outer → CountRose counts counts outer
+desk-counted counts Outer.Nothing h = refl
+desk-counted counts (Outer.Desk logged) h = refl
+desk-counted counts _ h = absurd h
 
 -- ---- the turn
 
@@ -233,6 +238,7 @@ relay-turns {L} told counts stands users pubs generation config cap h marks now 
   lookup_plan = refl;
   plan' = desk-plan net outer _ desk;
   outer' = desk-outer net _ outer desk;
+  counted = desk-counted net.counts outer desk;
   stops_c = λ worker. stops-of fault _ _ p.takes_c (λ e. absurd (cc)) (λ e. ap is_some (sym is_fault) ∙ fault-first (is_read pass.took_c) (is_sound pass.gave_t) (is_read pass.took_t) (is_sound pass.gave_c) e)
       (λ e. holds_c worker (held-full _ pass.gave_t (p.held_c e)));
   stops_t = λ worker. stops-of fault _ _ p.takes_t (λ e. ap is_some (sym is_fault) ∙ fault-unread (is_read pass.took_c) (is_sound pass.gave_t) (is_read pass.took_t) (is_sound pass.gave_c) e)
@@ -255,10 +261,16 @@ relay-turns {L} told counts stands users pubs generation config cap h marks now 
     room = λ relays'. subst (λ n. n < pipe_size) (sym waits_c) (p.room_t e);
   };
   idle_c = λ e. let f = idle-of p.takes_c e in (idle-given p.gives_c f.0, rose-after _ _ _ f.1 p.gives_c.later.idle_reads);
-  idle_t = λ e. subst (λ (z : Option L). IsThereAnd z (λ link. IsIdle (told link))) (sym k.target') (idle-of p.takes_t e).0;
+  idle_t = λ e. let f = idle-of p.takes_t e in (
+    subst (λ (z : Option L). IsThereAnd z (λ link. IsIdle (told link))) (sym k.target') f.0,
+    rose-target (λ link. (counts link).idle_reads) k.target k.target' (rose-before _ _ _ p.gives_t.later.idle_reads f.1),
+  );
   full_c = λ e. let f = full-of p.gives_c e in (f.1, rose-before _ _ _ p.takes_c.later.idle_writes f.2, short _ p.gives_c.rest _ owes_c f.0);
-  full_t = λ e. let f = full-of p.gives_t e in
-      (subst (λ (z : Option L). IsThereAnd z (λ link. IsFull (told link))) (sym k.target') (full-taken p.takes_t f.1), short _ p.gives_t.rest _ owes_t f.0);
+  full_t = λ e. let f = full-of p.gives_t e in (
+    subst (λ (z : Option L). IsThereAnd z (λ link. IsFull (told link))) (sym k.target') (full-taken p.takes_t f.1),
+    rose-target (λ link. (counts link).idle_writes) k.target k.target' (rose-after _ _ _ f.2 p.takes_t.later.idle_writes),
+    short _ p.gives_t.rest _ owes_t f.0,
+  );
   room_c = λ e. ap (λ (z : List ℕ). length z) (p.gives_c.stuck ((outside-taken p.takes_c).room ∙ e));
   room_t = λ e. ap (λ (z : List ℕ). length z) (p.gives_t.stuck (subst (λ (z : Option L). TakesNothing told net z) k.target e));
   failed_c = first_failed (failed_taking pass.took_c) (failed_giving pass.gave_c);

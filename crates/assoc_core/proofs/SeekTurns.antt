@@ -1,5 +1,5 @@
 -- The turn in which a name is looked up, and the client is written to.
-use Rattle.std.proofs.Common.{◌≡◌, ℕ, ◌-◌, Bool, true, false, Option, Some, None, Result, Ok, Err, List, [], ◌∷◌, ◌++◌, length, slice_set, refl, sym, ap, ◌∙◌, is_some}
+use Rattle.std.proofs.Common.{◌≡◌, ℕ, ◌-◌, Bool, true, false, Option, Some, None, Result, Ok, Err, List, [], ◌∷◌, ◌++◌, length, slice_set, refl, sym, ap, subst, ◌∙◌, is_some}
 use Rattle.addr_pattern.specs.declared.addr.Addr.{Addr}
 use Rattle.addr_pattern.specs.declared.host.Host.{Host}
 use Rattle.conf_model.specs.declared.config.Config.{Config}
@@ -7,7 +7,7 @@ use Rattle.conf_model.specs.declared.user.User.{User}
 use Rattle.conf_model.specs.Handshake.{Split}
 use Rattle.net_ends.specs.Counts.{Counts}
 use Rattle.net_ends.specs.declared.net.Lookup.{Lookup}
-use Rattle.net_ends.specs.Nets.{NetTold, NetCounts, looked_up}
+use Rattle.net_ends.specs.Nets.{LookupCause, NetTold, looked_up}
 use Rattle.connect_core.specs.Finding.{Finds, answer_of}
 use Rattle.net_ends.specs.Told.{Told}
 use Rattle.socks_machine.specs.declared.cause.Cause.{Cause}
@@ -79,6 +79,7 @@ calls-lookup net net' name old new k there = by k.outcome refl
       lookup_plan = ap (λ (n : NetTold). n.lookup_plan) k.lookups;
       plan' = ap (λ (n : NetTold). n.plan) k.lookups;
       outer' = λ plan p. ap looked_as (sym e ∙ k.planned plan p);
+      counted = tt;
     }
     by Lookup.NotFound e = record {
       dials = ap (λ (n : NetTold). n.dials) k.lookups;
@@ -86,6 +87,7 @@ calls-lookup net net' name old new k there = by k.outcome refl
       lookup_plan = ap (λ (n : NetTold). n.lookup_plan) k.lookups;
       plan' = ap (λ (n : NetTold). n.plan) k.lookups;
       outer' = λ plan p. ap looked_as (sym e ∙ k.planned plan p);
+      counted = subst (λ (v : Lookup). LookupCause net.counts net'.counts v) e k.cause;
     }
     by Lookup.Failed e = record {
       dials = ap (λ (n : NetTold). n.dials) k.lookups;
@@ -93,6 +95,7 @@ calls-lookup net net' name old new k there = by k.outcome refl
       lookup_plan = ap (λ (n : NetTold). n.lookup_plan) k.lookups;
       plan' = ap (λ (n : NetTold). n.plan) k.lookups;
       outer' = λ plan p. ap looked_as (sym e ∙ k.planned plan p);
+      counted = subst (λ (v : Lookup). LookupCause net.counts net'.counts v) e k.cause;
     }
 
 pub seeks-turn : {L : Type 0} (told : L → Told) (counts : L → Counts) (users : List User) (pubs : List Config) (generation : ℕ) (config : Config) (most : ℕ) (h : List Line) (marks : List StopBy)
@@ -144,13 +147,14 @@ answer-found (Lookup.Found a) addr e = (ap found-in (sym e), refl)
 answer-found Lookup.NotFound addr e = absurd (cc)
 answer-found Lookup.Failed addr e = absurd (cc)
 
-pub seeks-found : (net net' : NetTold) (was now : NetCounts) (name host held : List ℕ) (found : Result Addr Cause) (addr : Addr) (old : Record) (pushed after : List Decision)
-    → Finds net net' was now name found → found ≡ Ok addr → host ≡ name → held ≡ name → pushed ≡ old.decisions ++ Decision.Looked host None ∷ []
+pub seeks-found : (net net' : NetTold) (name host held : List ℕ) (found : Result Addr Cause) (addr : Addr) (old : Record) (pushed after : List Decision)
+    → Finds net net' name found → found ≡ Ok addr → host ≡ name → held ≡ name → pushed ≡ old.decisions ++ Decision.Looked host None ∷ []
     → after ≡ slice_set pushed (length pushed - 1) (Decision.Looked held (Some addr)) → Seeks net net' name old (let r = old in record r { decisions = after })
-seeks-found net net' was now name host held found addr old pushed after k is host' held' pushed' after' = record {
+seeks-found net net' name host held found addr old pushed after k is host' held' pushed' after' = record {
   outcome = k.outcome;
   lookups = k.lookups;
   planned = k.planned;
+  cause = k.cause;
   state' = λ i. let r = old in record r { decisions = ds i; cause = ap (λ (o : Option Cause). first_cause o r.cause) (sym (answer-found k.outcome addr (sym is ∙ k.answer)).1) i };
 }
   where
@@ -171,13 +175,14 @@ answer-missed Lookup.Failed cause e = (refl, ap cause-in (sym e))
     cause-in (Ok x) = None
     cause-in (Err k) = Some k
 
-pub seeks-missed : (net net' : NetTold) (was now : NetCounts) (name host : List ℕ) (found : Result Addr Cause) (cause : Cause) (fixed : Option Cause) (old : Record) (pushed : List Decision)
-    → Finds net net' was now name found → found ≡ Err cause → host ≡ name → pushed ≡ old.decisions ++ Decision.Looked host None ∷ [] → fixed ≡ first_cause (Some cause) old.cause
+pub seeks-missed : (net net' : NetTold) (name host : List ℕ) (found : Result Addr Cause) (cause : Cause) (fixed : Option Cause) (old : Record) (pushed : List Decision)
+    → Finds net net' name found → found ≡ Err cause → host ≡ name → pushed ≡ old.decisions ++ Decision.Looked host None ∷ [] → fixed ≡ first_cause (Some cause) old.cause
     → Seeks net net' name old (let r = old in record r { decisions = pushed; cause = fixed })
-seeks-missed net net' was now name host found cause fixed old pushed k is host' pushed' fixed' = record {
+seeks-missed net net' name host found cause fixed old pushed k is host' pushed' fixed' = record {
   outcome = k.outcome;
   lookups = k.lookups;
   planned = k.planned;
+  cause = k.cause;
   state' = λ i. let r = old in record r {
     decisions = (pushed' ∙ (λ n. old.decisions ++ Decision.Looked (host' n) (sym (answer-missed k.outcome cause (sym is ∙ k.answer)).0 n) ∷ [])) i;
     cause = (fixed' ∙ ap (λ (o : Option Cause). first_cause o r.cause) (sym (answer-missed k.outcome cause (sym is ∙ k.answer)).1)) i;

@@ -24,7 +24,7 @@ use Rattle.assoc_core.specs.declared.assoc.Next.{Next}
 use Rattle.assoc_core.specs.Hearing.{IsAtEnd}
 use Rattle.assoc_core.specs.Plain.{owed_c}
 use Rattle.assoc_core.specs.Stands.{GoesDirect, Stands, Holds, EndsBehind, GivesFirst, HoldsTarget}
-use Rattle.assoc_core.specs.Turns.{Turns, Acts, event_of, links, mark_of, left_of, GoesOn, IsIdle, IsFull, SameOutside, SameTarget, DialsAre, FaultIs, LookupsAre, PlanStays, IsOuterOf, StopsReading, TriedTarget, is_write}
+use Rattle.assoc_core.specs.Turns.{Turns, Acts, event_of, links, mark_of, left_of, GoesOn, IsIdle, IsFull, SameOutside, SameTarget, DialsAre, FaultIs, LookupsAre, PlanStays, IsOuterOf, CountRose, StopsReading, TriedTarget, is_write}
 use Rattle.assoc_core.proofs.StandsLaws.{SameTargetSide, target-same, same-target}
 use Rattle.assoc_core.proofs.Tryings.{target-untried, tried-as}
 use Rattle.assoc_core.proofs.Talking.{Hearing, Speaking, basis_of, context_of, before, speaking, spoken_to, spoken_in, unspoken, spoken_takings}
@@ -66,10 +66,11 @@ pub record CallsOut (net net' : NetTold) (p : Phase) (outer : Outer) (there : Bo
   pub lookup_plan : net'.lookup_plan ≡ net.lookup_plan
   pub plan' : PlanStays net net' outer there
   pub outer' : IsOuterOf net p outer
+  pub counted : CountRose net.counts net'.counts outer
 
 pub desk-calls : (net : NetTold) (p : Phase) (desk : Option Bool) (there : Bool) → CallsOut net net p (desk_outer desk) there
-desk-calls net p None there = record { dials = refl; lookups = refl; lookup_plan = refl; plan' = refl; outer' = tt }
-desk-calls net p (Some logged) there = record { dials = refl; lookups = refl; lookup_plan = refl; plan' = refl; outer' = tt }
+desk-calls net p None there = record { dials = refl; lookups = refl; lookup_plan = refl; plan' = refl; outer' = tt; counted = refl }
+desk-calls net p (Some logged) there = record { dials = refl; lookups = refl; lookup_plan = refl; plan' = refl; outer' = tt; counted = refl }
 
 abbrev pub speak_acts : List ℕ → Bool → Outer → ℕ → Bool → Bool → Option Object → Bool → Acts
 speak_acts x ends outer sent idle full fault unwritten = record {
@@ -189,6 +190,7 @@ turns-called {L = L} told counts stands t now net net' a next y ends outer idle 
   lookup_plan = calls.lookup_plan;
   plan' = calls.plan';
   outer' = calls.outer';
+  counted = calls.counted;
   stops_c = λ worker. stops-as false ends idle t.x fault _ _ _ _ (λ none. absurd none) (λ unread. record {
     behind = h.open';
     taken' = takes-is (spoken_to t) t.generation (t.config).methods (speak_event t worker now open_acts (mark_of next)) (unspoken t) h.open' h.takes_open;

@@ -4,6 +4,7 @@ pub mod Closing
 pub mod Draining
 pub mod Granting
 pub mod Hearing
+pub mod Lent
 pub mod Lines
 pub mod Moment
 pub mod Plain

@@ -1,7 +1,7 @@
 -- A granted destination that was dialled.
 use Rattle.std.specs.Prelude.{ℕ, ◌≡◌, ◌<◌, Bool, true, false, length, drop, Option, Some, None, List, [], ◌∷◌, ◌++◌}
 use Rattle.addr_pattern.specs.declared.endpoint.Endpoint.{Endpoint}
-use Rattle.net_ends.specs.Nets.{DialOutcome, NetTold, Plan, SameLookups, dialled}
+use Rattle.net_ends.specs.Nets.{DialCause, DialOutcome, NetTold, Plan, SameLookups, dialled}
 use Rattle.net_ends.specs.Counts.{Counts, Later, Rose}
 use Rattle.net_ends.specs.Faults.{Tried}
 use Rattle.net_ends.specs.Told.{Told, IsFresh, more}
@@ -44,6 +44,7 @@ pub record HasDialled {L : Type 0} (told : L → Told) (basis : Basis) (net net'
   pub lookups : SameLookups net net'
   pub planned : (plan : Plan) → net.plan ≡ Some plan → outcome ≡ plan.outcome
   pub kept : at_of outcome ≡ None → net'.plan ≡ net.plan
+  pub cause : DialCause net.counts net'.counts outcome
 
 -- the link that came up
 pub record IsNewLink (told : Told) (counts : Counts) (net : NetTold) : Type 0 where

@@ -2,7 +2,7 @@
 use Rattle.std.specs.Prelude.{ℕ, ◌≡◌, Option, Some, None, List, [], ◌∷◌, ◌++◌}
 use Rattle.addr_pattern.specs.declared.addr.Addr.{Addr}
 use Rattle.net_ends.specs.declared.net.Lookup.{Lookup}
-use Rattle.net_ends.specs.Nets.{NetTold, looked_up}
+use Rattle.net_ends.specs.Nets.{LookupCause, NetTold, looked_up}
 use Rattle.socks_machine.specs.declared.cause.Cause.{Cause}
 use Rattle.socks_machine.specs.declared.record.Decision.{Decision}
 use Rattle.socks_machine.specs.declared.record.Record.{Record}
@@ -30,6 +30,7 @@ sought_behind name outcome r = record r {
 -- the net was asked for the name once, and what it answered was decided
 pub record Seeks (net net' : NetTold) (name : List ℕ) (old new : Record) : Type 0 where
   pub outcome : Lookup
-  pub lookups : net' ≡ record net { lookups = looked_up net.lookups (record { name = name; outcome = outcome }) }
+  pub lookups : net' ≡ record net { lookups = looked_up net.lookups (record { name = name; outcome = outcome }); counts = net'.counts }
   pub planned : (plan : Lookup) → net.lookup_plan ≡ Some plan → outcome ≡ plan
+  pub cause : LookupCause net.counts net'.counts outcome
   pub state' : new ≡ sought_behind name outcome old

@@ -7,7 +7,7 @@ use Rattle.net_ends.specs.Counts.{Counts, Rose}
 use Rattle.net_ends.specs.Faults.{Tried}
 use Rattle.net_ends.specs.declared.kinds.Kind.{Kind}
 use Rattle.net_ends.specs.declared.net.Lookup.{Lookup}
-use Rattle.net_ends.specs.Nets.{Dial, DialOutcome, LookedUp, NetTold, Plan, dialled, looked_up}
+use Rattle.net_ends.specs.Nets.{Dial, DialOutcome, LookedUp, NetCounts, NetTold, Plan, dialled, looked_up}
 use Rattle.net_ends.specs.Told.{Told, Arrival}
 use Rattle.socks_machine.specs.declared.cause.StopBy.{StopBy}
 use Rattle.socks_machine.specs.declared.lines.Line.{Line}
@@ -170,6 +170,18 @@ abbrev pub PlanStays : NetTold → NetTold → Outer → Bool → Type 0
 PlanStays net net' (Outer.Up at) there = there ≡ true
 PlanStays net net' outer there = net'.plan ≡ net.plan
 
+-- the net's count of the failure that the outer call came to rose, and where the net wasn't called each of its counts stayed
+abbrev pub CountRose : NetCounts → NetCounts → Outer → Type 0
+CountRose old new Outer.Nothing = new ≡ old
+CountRose old new (Outer.Desk logged) = new ≡ old
+CountRose old new (Outer.Looked (Some addr)) = Unit {0}
+CountRose old new (Outer.Looked None) = Rose old.not_found new.not_found
+CountRose old new (Outer.Up at) = Unit {0}
+CountRose old new Outer.Refused = Rose old.refused new.refused
+CountRose old new Outer.HostUnreachable = Rose old.no_host new.no_host
+CountRose old new Outer.NetUnreachable = Rose old.no_net new.no_net
+CountRose old new Outer.Failed = Rose old.faults new.faults
+
 -- NotYet to a read: all that arrived was given, and no end stands behind it
 abbrev pub IsIdle : Told → Type 0
 IsIdle told = (arrival : Arrival) (given : List ℕ) → told.arrived ≡ Some arrival → told.given ≡ Some given → (given ≡ arrival.bytes) × (arrival.ends ≡ false)
@@ -181,6 +193,12 @@ IsFull told = told.room ≢ Some 0 → (cap : ℕ) (taken : List ℕ) → told.c
 abbrev pub IsThereAnd : {L : Type 0} → Option L → (L → Type 0) → Type 0
 IsThereAnd None p = ⊥
 IsThereAnd (Some link) p = p link
+
+-- a count of the target's link rose; of a link that has come up since it isn't 0
+abbrev pub RoseTarget : {L : Type 0} → (L → ℕ) → Option L → Option L → Type 0
+RoseTarget count (Some old) (Some new) = Rose (count old) (count new)
+RoseTarget count None (Some new) = 0 < count new
+RoseTarget count old None = ⊥
 
 -- Calls on the target's link, where one is there: from those counts of its own, or from those with which it came up, of which
 -- the plan told what was due to fail.
@@ -273,6 +291,7 @@ pub record Turns {L : Type 0} (told : L → Told) (counts : L → Counts) (stand
   pub lookup_plan : net'.lookup_plan ≡ net.lookup_plan
   pub plan' : PlanStays net net' acts.outer (is_some (reached_at (result.left).decisions))
   pub outer' : IsOuterOf net (phase s.basis behind) acts.outer
+  pub counted : CountRose net.counts net'.counts acts.outer
   pub stops_c : (worker : ℕ) → StopsReading a.state.end_c acts.end_c acts.idle_c acts.c acts.fault
       (Filled s a.state result.left (event_of worker a.state.number now acts (mark_of next)) waiting_for_target)
       (Unread s a.state (event_of worker a.state.number now acts (mark_of next)) (reads_client s.basis (links acts.idle_c acts.idle_t) (links acts.full_c acts.full_t)))
@@ -283,11 +302,12 @@ pub record Turns {L : Type 0} (told : L → Told) (counts : L → Counts) (stand
       (reads_client s.basis (links acts.idle_c acts.idle_t) (links acts.full_c acts.full_t)) waiting_for_target
   pub reads_end_t : (worker : ℕ) → acts.end_t ≡ true → ReadsEnd s a.state result.left (event_of worker a.state.number now acts (mark_of next)) a.state.end_t acts.t reads_target waiting_for_client
   pub idle_c : acts.idle_c ≡ true → IsIdle (told (left_of next).client) × Rose (counts a.client).idle_reads (counts (left_of next).client).idle_reads
-  pub idle_t : acts.idle_t ≡ true → IsThereAnd (left_of next).target (λ link. IsIdle (told link))
+  pub idle_t : acts.idle_t ≡ true → IsThereAnd (left_of next).target (λ link. IsIdle (told link)) × RoseTarget (λ link. (counts link).idle_reads) a.target (left_of next).target
   -- what was written
   pub full_c : acts.full_c ≡ true → IsFull (told (left_of next).client) × Rose (counts a.client).idle_writes (counts (left_of next).client).idle_writes
       × (length result.left.sent_c < length (owed_c result.left))
-  pub full_t : acts.full_t ≡ true → IsThereAnd (left_of next).target (λ link. IsFull (told link)) × (length result.left.sent_t < length (owed_t result.left))
+  pub full_t : acts.full_t ≡ true → IsThereAnd (left_of next).target (λ link. IsFull (told link)) × RoseTarget (λ link. (counts link).idle_writes) a.target (left_of next).target
+      × (length result.left.sent_t < length (owed_t result.left))
   pub room_c : (told a.client).room ≡ Some 0 → acts.sent_c ≡ 0
   pub room_t : TakesNothing told net a.target → acts.sent_t ≡ 0
   -- which calls failed

@@ -10,6 +10,7 @@ mod due;
 mod grant;
 mod hear;
 mod judge;
+mod lent;
 mod moment;
 mod one_turn;
 mod prelude;

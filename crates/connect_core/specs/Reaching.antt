@@ -2,7 +2,7 @@
 use Rattle.std.specs.Prelude.{◌≡◌, Option, Some, None}
 use Rattle.addr_pattern.specs.declared.endpoint.Endpoint.{Endpoint}
 use Rattle.net_ends.specs.Counts.{Counts}
-use Rattle.net_ends.specs.Nets.{DialCause, DialOutcome, NetCounts, NetTold, Plan, dialled}
+use Rattle.net_ends.specs.Nets.{DialCause, DialOutcome, NetTold, Plan, dialled}
 use Rattle.net_ends.specs.Told.{Told}
 use Rattle.socks_machine.specs.declared.cause.Cause.{Cause}
 use Rattle.connect_core.specs.declared.dial.Reached.{Reached}
@@ -32,11 +32,11 @@ OnFailed (Reached.Failed cause) p = p
 
 -- One dial of that endpoint, which came out as it is answered. Where the net tells its plan it came out so, and the link is the
 -- planned one, of which the same calls are due to fail. It failed only where the count of that failure rose.
-pub record Reaches {L : Type 0} (told : L → Told) (counts : L → Counts) (old new : NetTold) (was now : NetCounts) (to : Endpoint) (reached : Reached L) : Type 0 where
+pub record Reaches {L : Type 0} (told : L → Told) (counts : L → Counts) (old new : NetTold) (to : Endpoint) (reached : Reached L) : Type 0 where
   pub outcome : DialOutcome
   pub dials : new.dials ≡ dialled old.dials (record { to = to; outcome = outcome })
   pub answer : IsAnswer outcome reached
   pub planned : (plan : Plan) → old.plan ≡ Some plan → outcome ≡ plan.outcome
   pub link : (plan : Plan) → old.plan ≡ Some plan → IfReached reached (λ link. told link ≡ plan.link)
   pub due' : (plan : Plan) → old.plan ≡ Some plan → IfReached reached (λ link. (counts link).due ≡ plan.due)
-  pub cause : DialCause was now outcome
+  pub cause : DialCause old.counts new.counts outcome

@@ -19,11 +19,11 @@ pub enum Reached<L> {
 
 /// Dials `to`, once. It holds its caller until the dial has an outcome.
 pub fn reach<N: Net>(net: &mut N, to: Endpoint) -> Reached<N::Link>
-    ensures dial { Reaches N.Link.told N.Link.counts (N.told net.old) (N.told net.new) (N.counts net.old) (N.counts net.new) to result }
+    ensures dial { Reaches N.Link.told N.Link.counts (N.told net.old) (N.told net.new) to result }
     ensures lookups { SameLookups (N.told net.old) (N.told net.new) }
     ensures kept { OnFailed result ((N.told net.new).plan ≡ (N.told net.old).plan) }
     ensures fresh { IfReached result (λ link. IsFresh (N.Link.told link)) }
-    ensures later { NetLater (N.counts net.old) (N.counts net.new) }
+    ensures later { NetLater (N.told net.old).counts (N.told net.new).counts }
 {
     match net.dial(to) {
         Dialing::Up { link, local } => Reached::Up { link, local },

@@ -1,11 +1,11 @@
 -- Which kinds of calls on a link are due to fail, and what calls on it come to then.
-use Rattle.std.specs.Prelude.{◌≡◌, Bool, true, false, Option, Some, None, IfSome}
+use Rattle.std.specs.Prelude.{◌≡◌, ◌≢◌, Bool, true, false, Option, Some, None, IfSome}
 use Rattle.net_ends.specs.declared.kinds.Kind.{Kind}
 use Rattle.net_ends.specs.declared.kinds.Kinds.{Kinds}
 use Rattle.net_ends.specs.declared.link.Reading.{Reading}
 use Rattle.net_ends.specs.declared.link.Writing.{Writing}
 use Rattle.net_ends.specs.declared.link.Shutting.{Shutting}
-use Rattle.net_ends.specs.Counts.{Counts}
+use Rattle.net_ends.specs.Counts.{Counts, Rose}
 
 abbrev pub no_kind : Kinds
 no_kind = record { reads = false; writes = false; shuts = false }
@@ -32,7 +32,7 @@ without kinds (Some kind) = without_kind kinds kind
 
 -- Calls on a link, of which only the last may have failed. Where the link tells which kinds are due to fail, a failed call was
 -- of such a kind, which isn't due any more, and no call of such a kind was done: so Reads is to say that no read was done, and
--- Writes and Shuts the same of the other kinds. The count of faults stays where no call failed.
+-- Writes and Shuts the same of the other kinds. The count of faults rose where a call failed, and stays where none did.
 pub record Tried (old new : Counts) (Reads Writes Shuts : Type 0) (failed : Option Kind) : Type 0 where
   pub reads : (due : Kinds) → old.due ≡ Some due → due.reads ≡ true → Reads
   pub writes : (due : Kinds) → old.due ≡ Some due → due.writes ≡ true → Writes
@@ -40,6 +40,7 @@ pub record Tried (old new : Counts) (Reads Writes Shuts : Type 0) (failed : Opti
   pub was_due : (due : Kinds) → old.due ≡ Some due → IfSome failed (λ kind. is_among due kind ≡ true)
   pub left : (due : Kinds) → old.due ≡ Some due → new.due ≡ Some (without due failed)
   pub faults : failed ≡ None → new.faults ≡ old.faults
+  pub rose : failed ≢ None → Rose old.faults new.faults
 
 -- one read: where a read is due to fail, it does
 abbrev pub ReadTried : Counts → Counts → Reading → Type 0

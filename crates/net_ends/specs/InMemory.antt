@@ -90,13 +90,15 @@ pub record NetInMemory : Type 0 where
   pub last : Option Endpoint
   pub counts : NetCounts
 
--- It tells how its next lookup comes out, and the plan of its next dial. Neither takes memory, so it keeps no list of them.
+-- It tells its counts, how its next lookup comes out, and the plan of its next dial. Neither takes memory, so it keeps no list of
+-- them.
 abbrev pub told_of_net : NetInMemory → NetTold
 told_of_net net = record {
   lookups = None;
   dials = None;
   lookup_plan = Some net.lookup;
   plan = Some (record { outcome = net.outcome; link = told_of_link net.link; due = net.link.counts.due });
+  counts = net.counts;
 }
 
 -- it finds no name, its next dial is refused, and the link that waits can take that many bytes

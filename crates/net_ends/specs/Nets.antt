@@ -39,13 +39,22 @@ pub record LookedUp : Type 0 where
   pub name : List ℕ
   pub outcome : Lookup
 
--- The lookups and the dials so far, where it tells. A net of memory tells more: how its next lookup comes out, and the plan of
--- its next dial.
+-- how often each failure was answered, whichever call answered it
+pub record NetCounts : Type 0 where
+  pub not_found : ℕ
+  pub refused : ℕ
+  pub no_host : ℕ
+  pub no_net : ℕ
+  pub faults : ℕ
+
+-- The lookups and the dials so far, where it tells, and how often each failure was answered. A net of memory tells more: how its
+-- next lookup comes out, and the plan of its next dial.
 pub record NetTold : Type 0 where
   pub lookups : Option (List LookedUp)
   pub dials : Option (List Dial)
   pub lookup_plan : Option Lookup
   pub plan : Option Plan
+  pub counts : NetCounts
 
 abbrev pub looked_up : Option (List LookedUp) → LookedUp → Option (List LookedUp)
 looked_up None lookup = None
@@ -59,14 +68,6 @@ dialled (Some dials) dial = Some (dials ++ dial ∷ [])
 pub record SameLookups (old new : NetTold) : Type 0 where
   pub lookups : new.lookups ≡ old.lookups
   pub plan : new.lookup_plan ≡ old.lookup_plan
-
--- how often each failure was answered, whichever call answered it
-pub record NetCounts : Type 0 where
-  pub not_found : ℕ
-  pub refused : ℕ
-  pub no_host : ℕ
-  pub no_net : ℕ
-  pub faults : ℕ
 
 -- no count fell
 pub record NetLater (old new : NetCounts) : Type 0 where

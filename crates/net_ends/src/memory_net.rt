@@ -160,10 +160,8 @@ impl Net for MemNet {
 
     ghost told = { told_of_net };
 
-    ghost counts = { λ net. net.counts };
-
     fn lookup(&mut self, name: &Name) -> Lookup
-        ensures told { told_of_net self.new ≡ record (told_of_net self.old) { lookups = looked_up (told_of_net self.old).lookups (record { name = name.now; outcome = result }) } }
+        ensures told { told_of_net self.new ≡ record (told_of_net self.old) { lookups = looked_up (told_of_net self.old).lookups (record { name = name.now; outcome = result }); counts = self.new.counts } }
         ensures planned { (plan : Lookup) → (told_of_net self.old).lookup_plan ≡ Some plan → result ≡ plan }
         ensures later { NetLater self.old.counts self.new.counts }
         ensures cause { LookupCause self.old.counts self.new.counts result }

@@ -186,7 +186,7 @@ full-links P false false f g = all-none P
 
 no-room-where-full : (k : Turning) → All (λ x. IsTrue (holds x k.o.no_room)) (event k).full
 no-room-where-full k = full-links (λ x. IsTrue (holds x k.o.no_room)) k.turns.acts.full_c k.turns.acts.full_t (full-client k)
-    (λ h. let f = k.turns.full_t h in full-target k (left_of k.next).target k.turns.target k.turns.same_target f.0 f.1)
+    (λ h. let f = k.turns.full_t h in full-target k (left_of k.next).target k.turns.target k.turns.same_target f.0 f.2)
 
 -- ---- nothing is sent to a side that takes nothing
 
@@ -360,7 +360,7 @@ target-rest-at k (Some l) h same idle =
 
 target-rest-told : (k : Turning) → k.turns.acts.idle_t ≡ true → (k.a.state.t ++ k.turns.acts.t ≡ k.o.t) × (k.o.end_t ≡ false)
 target-rest-told k h =
-    let e = target-rest-at k (left_of k.next).target k.turns.target k.turns.same_target (k.turns.idle_t h) in
+    let e = target-rest-at k (left_of k.next).target k.turns.target k.turns.same_target (k.turns.idle_t h).0 in
     (sym k.turns.t ∙ e.0, e.1)
 
 -- ---- the faults

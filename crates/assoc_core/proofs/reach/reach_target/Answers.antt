@@ -11,7 +11,7 @@ pub returns-in-Up : goal.returns-in-Up
 returns-in-Up g c = if-ok-more c.greet.result _ _ (λ next h' users pubs generation config most h marks now opened' granted' rule sought facts verdict route standing since uncaused is.
     h' users pubs generation config most h marks (g.N.Net.told c.args.net.now) (g.N.Net.told c.reach.new.net) now c.args.assoc c.in-Up.local
     (dialled-up g.N.Link.Link.told (socks users pubs) (g.N.Net.told c.args.net.now) (g.N.Net.told c.reach.new.net) now c.args.assoc c.in-Some.to c.in-Up.local c.push.new.self c.set_last.new.self opened' granted' rule sought facts verdict route
-    (up-of g.N.Link.Link.told g.N.Link.Link.counts (g.N.Net.told c.args.net.now) (g.N.Net.told c.reach.new.net) (g.N.Net.counts c.args.net.now) (g.N.Net.counts c.reach.new.net) now c.args.assoc c.in-Some.to c.in-Up.link c.in-Up.local c.push.new.self
+    (up-of g.N.Link.Link.told g.N.Link.Link.counts (g.N.Net.told c.args.net.now) (g.N.Net.told c.reach.new.net) now c.args.assoc c.in-Some.to c.in-Up.link c.in-Up.local c.push.new.self
     (search rules) c.in_ok-push.ensures.ok c.in-Up.ensures.dial c.in-Up.ensures.lookups) c.set_last.ensures standing since uncaused is)
     (record { fresh = c.in-Up.ensures.fresh; planned = c.in-Up.ensures.dial.link; due' = c.in-Up.ensures.dial.due' })) c.greet.ensures
 
@@ -26,4 +26,5 @@ returns-in-Failed g c = if-ok-more c.refuse.result _ _ (λ next h' users pubs ge
       lookups = c.in-Failed.ensures.lookups;
       planned = c.in-Failed.ensures.dial.planned;
       kept = λ e. c.in-Failed.ensures.kept;
+      cause = c.in-Failed.ensures.dial.cause;
     }) (at-none c.in-Failed.ensures.dial.outcome c.in-Failed.cause c.in-Failed.ensures.dial.answer) standing since uncaused is) c.in-Failed.ensures.dial.answer) c.refuse.ensures
