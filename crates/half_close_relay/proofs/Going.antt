@@ -1,14 +1,16 @@
 -- How rounds add up to a call.
-use Rattle.std.proofs.Common.{◌≡◌, ◌+◌, ◌-◌, ◌<◌, ◌≤◌, ◌⊎◌, inl, inr, ℕ, Bool, true, false, ◌||◌, Result, Ok, Err, List, [], ◌∷◌, ◌++◌, length, refl, ap, sym, ◌∙◌, append_assoc, length-append, arith}
+use Rattle.std.proofs.Common.{◌≡◌, ◌+◌, ◌-◌, ◌<◌, ◌≤◌, ◌⊎◌, inl, inr, ℕ, Bool, true, false, ◌||◌, Result, Ok, Err, List, [], ◌∷◌, ◌++◌, length, refl, ap, sym, ◌∙◌, append_assoc, length-append, Option, None, subst, arith}
 use Rattle.net_ends.specs.Told.{Told}
+use Rattle.net_ends.specs.declared.kinds.Kind.{Kind}
 use Rattle.half_close_relay.specs.declared.per_side.PerSide.{PerSide}
 use Rattle.half_close_relay.specs.declared.pumped.Pumped.{Pumped}
 use Rattle.half_close_relay.specs.declared.pumped.Side.{Side}
-use Rattle.half_close_relay.specs.Ways.{Way, Move, Moves, Seen, total, after_giving, after_taking, ReadIsDue, Untaken}
-use Rattle.half_close_relay.specs.Pumping.{Relaying, Serves, Relays, AtRest, Rounds, RoundEnds, BothShut, Pumps, PumpEnds, Flushes, FlushEnds, IsSilent, quantum}
+use Rattle.half_close_relay.specs.Ways.{Way, Move, Moves, Seen, total, after_giving, after_taking, Untaken}
+use Rattle.half_close_relay.specs.Pumping.{Relaying, Serves, Relays, AtRest, Rounds, RoundEnds, BothShut, Pumps, PumpEnds, Flushes, FlushEnds, FailedBy, IsSilent, quantum}
 use Rattle.half_close_relay.proofs.Sums.{more-nil, more-more, or-or, later-same, later-on, keeps-same, keeps-on, total-total}
 use Rattle.half_close_relay.proofs.Carrying.{failed-after, sink-before, source-before}
-use Rattle.half_close_relay.proofs.Rounding.{still, moves-still}
+use Rattle.half_close_relay.proofs.Rounding.{still, moves-still, read-due}
+use Rattle.half_close_relay.proofs.Tryings.{tried-none, tried-on, nil-on, neither-one}
 
 -- one move behind another
 abbrev pub join : Move → Move → Move
@@ -51,30 +53,39 @@ moves-on a b c m n h k = record {
     due false true x y e = behind (y refl)
     due false false x y e = absurd (cc)
 
-pub serves-still : (s : Seen) → Serves still still s s
+pub serves-still : (s : Seen) → Serves still still None s s
 serves-still s = record {
   told' = λ i. record (s.told) { given = sym (more-nil s.told.given) i; taken = sym (more-nil s.told.taken) i };
   later = later-same s.counts;
   arrival = keeps-same s.told;
+  tried = tried-none s.counts (record { given' = refl; ends' = refl }) refl refl;
 }
 
-pub serves-on : (f t g u : Move) (a b c : Seen) → Serves f t a b → Serves g u b c → Serves (join f g) (join t u) a c
-serves-on f t g u a b c h k = record {
+silent-on : (f g : Move) → IsSilent f → IsSilent g → IsSilent (join f g)
+silent-on f g h k = record { given' = nil-on f.given g.given h.given' k.given'; ends' = neither-one f.ends g.ends h.ends' k.ends' }
+
+pub serves-on : (f t g u : Move) (failed : Option Kind) (a b c : Seen) → Serves f t None a b → Serves g u failed b c → Serves (join f g) (join t u) failed a c
+serves-on f t g u failed a b c h k = record {
   told' = k.told' ∙ (ap (λ (z : Told). after_taking (after_giving z g.given g.ends) u.sent u.shuts) h.told'
       ∙ (λ i. record (a.told) { given = more-more a.told.given f.given g.given i; ended = or-or g.ends f.ends a.told.ended i; taken = more-more a.told.taken t.sent u.sent i; shut = or-or u.shuts t.shuts a.told.shut i }));
   later = later-on _ _ _ h.later k.later;
   arrival = keeps-on a.told b.told c.told h.arrival k.arrival;
+  tried = tried-on h.tried k.tried (silent-on f g) (nil-on t.sent u.sent) (neither-one t.shuts u.shuts);
 }
 
--- rounds so far, of which each took something; so many bytes may still be taken of each side
-pub record SoFar (taken left_c left_t : ℕ) (was now : Relaying) (client client' target target' : Seen) : Type 0 where
+-- rounds one behind another, in none of which but the last a call failed; so many bytes may still be taken of each side
+pub record Rounded (taken left_c left_t : ℕ) (was now : Relaying) (client client' target target' : Seen) (failed_c failed_t : Option Kind) : Type 0 where
   pub up : Move
   pub down : Move
-  pub relays : Relays was now client client' target target' up down
+  pub relays : Relays was now client client' target target' up down failed_c failed_t
   pub quantum_c : length up.given + left_c ≡ quantum
   pub quantum_t : taken + length down.given + left_t ≡ quantum
   pub early_c : up.ends ≡ true → 0 < left_c
   pub early_t : down.ends ≡ true → 0 < left_t
+
+-- rounds so far, in none of which a call failed
+abbrev pub SoFar : ℕ → ℕ → ℕ → Relaying → Relaying → Seen → Seen → Seen → Seen → Type 0
+SoFar taken left_c left_t was now client client' target target' = Rounded taken left_c left_t was now client client' target target' None None
 
 pub starts : (taken left : ℕ) (was : Relaying) (client target : Seen) → taken + left ≡ quantum → SoFar taken quantum left was was client client target target
 starts taken left was client target e = record {
@@ -87,14 +98,14 @@ starts taken left was client target e = record {
   early_t = λ h. cc;
 }
 
-relays-on : (a b c : Relaying) (client client' client'' target target' target'' : Seen) (up down up' down' : Move)
-    → Relays a b client client' target target' up down → Relays b c client' client'' target' target'' up' down'
-    → Relays a c client client'' target target'' (join up up') (join down down')
-relays-on a b c client client' client'' target target' target'' up down up' down' h k = record {
+relays-on : (a b c : Relaying) (client client' client'' target target' target'' : Seen) (up down up' down' : Move) (failed_c failed_t : Option Kind)
+    → Relays a b client client' target target' up down None None → Relays b c client' client'' target' target'' up' down' failed_c failed_t
+    → Relays a c client client'' target target'' (join up up') (join down down') failed_c failed_t
+relays-on a b c client client' client'' target target' target'' up down up' down' failed_c failed_t h k = record {
   moves_up = moves-on a.up b.up c.up up up' h.moves_up k.moves_up;
   moves_down = moves-on a.down b.down c.down down down' h.moves_down k.moves_down;
-  client_serves = serves-on up down up' down' client client' client'' h.client_serves k.client_serves;
-  target_serves = serves-on down up down' up' target target' target'' h.target_serves k.target_serves;
+  client_serves = serves-on up down up' down' failed_c client client' client'' h.client_serves k.client_serves;
+  target_serves = serves-on down up down' up' failed_t target target' target'' h.target_serves k.target_serves;
 }
 
 -- an end was read only where bytes could be, also where it was read before
@@ -112,22 +123,24 @@ early-on a b c m n left next h k e before now = cases n.ends m.ends now ended
 
 pub goes-on : (taken left_c left_t next_c next_t : ℕ) (a b c : Relaying) (client client' client'' target target' target'' : Seen) (outcome : Result PerSide Pumped) → SoFar taken left_c left_t a b client client' target target'
     → (k : Rounds left_c left_t b c client' client'' target' target'' outcome) → next_c + length k.up.given ≡ left_c → next_t + length k.down.given ≡ left_t
-    → SoFar taken next_c next_t a c client client'' target target''
+    → Rounded taken next_c next_t a c client client'' target target'' k.failed_c k.failed_t
 goes-on taken left_c left_t next_c next_t a b c client client' client'' target target' target'' outcome h k e f = record {
   up = join h.up k.up;
   down = join h.down k.down;
-  relays = relays-on a b c client client' client'' target target' target'' h.up h.down k.up k.down h.relays k.relays;
+  relays = relays-on a b c client client' client'' target target' target'' h.up h.down k.up k.down k.failed_c k.failed_t h.relays k.relays;
   quantum_c = omega (arith, h.quantum_c, e, length-append h.up.given k.up.given);
   quantum_t = omega (arith, h.quantum_t, f, length-append h.down.given k.down.given);
   early_c = early-on a.up b.up c.up h.up k.up left_c next_c h.relays.moves_up k.relays.moves_up e h.early_c k.early_c;
   early_t = early-on a.down b.down c.down h.down k.down left_t next_t h.relays.moves_down k.relays.moves_down f h.early_t k.early_t;
 }
 
-pumps : (taken left_c left_t : ℕ) (was now : Relaying) (client client' target target' : Seen) (answer : Pumped) → SoFar taken left_c left_t was now client client' target target'
-    → PumpEnds left_c left_t now client client' target target' answer → Pumps taken was now client client' target target' answer
-pumps taken left_c left_t was now client client' target target' answer h why = record {
+pumps : (taken left_c left_t : ℕ) (was now : Relaying) (client client' target target' : Seen) (answer : Pumped) (failed_c failed_t : Option Kind) → Rounded taken left_c left_t was now client client' target target' failed_c failed_t
+    → PumpEnds left_c left_t now client client' target target' answer → FailedBy left_c left_t now failed_c failed_t answer → Pumps taken was now client client' target target' answer
+pumps taken left_c left_t was now client client' target target' answer failed_c failed_t h why fails = record {
   up = h.up;
   down = h.down;
+  failed_c = failed_c;
+  failed_t = failed_t;
   relays = h.relays;
   left_c = left_c;
   left_t = left_t;
@@ -136,13 +149,11 @@ pumps taken left_c left_t was now client client' target target' answer h why = r
   early_c = h.early_c;
   early_t = h.early_t;
   why = why;
+  fails = fails;
 }
 
-same-unfailing : (f t : Move) (a b : Seen) → Serves f t a b → b.told.unfailing ≡ a.told.unfailing
-same-unfailing f t a b h = ap (λ (z : Told). z.unfailing) h.told'
-
-read-due : (left : ℕ) (was now : Way) (given : List ℕ) → Untaken left was now given → ReadIsDue (left - length given) now
-read-due left was now given h = record { unended = ap (λ (w : Way). w.ended) h.same ∙ h.unended; some = omega (arith, h.some, ap length h.nothing) }
+same-unfailing : (f t : Move) (failed : Option Kind) (a b : Seen) → Serves f t failed a b → b.told.unfailing ≡ a.told.unfailing
+same-unfailing f t failed a b h = ap (λ (z : Told). z.unfailing) h.told'
 
 of-either : {A B C D : Type 0} → (A → C) → (B → D) → A ⊎ B → C ⊎ D
 of-either f g (inl x) = inl (f x)
@@ -152,35 +163,34 @@ of-either f g (inr x) = inr (g x)
 pub halts : (taken left_c left_t : ℕ) (a b c : Relaying) (client client' client'' target target' target'' : Seen) (answer : Pumped) → SoFar taken left_c left_t a b client client' target target'
     → Rounds left_c left_t b c client' client'' target' target'' (Err answer) → Pumps taken a c client client'' target target'' answer
 halts taken left_c left_t a b c client client' client'' target target' target'' answer h k =
-    pumps taken (left_c - length k.up.given) (left_t - length k.down.given) a c client client'' target target'' answer
-    (goes-on taken left_c left_t (left_c - length k.up.given) (left_t - length k.down.given) a b c client client' client'' target target' target'' (Err answer) h k (omega (arith, k.within_c)) (omega (arith, k.within_t))) (ends answer k.why)
+    pumps taken (left_c - length k.up.given) (left_t - length k.down.given) a c client client'' target target'' answer k.failed_c k.failed_t
+    (goes-on taken left_c left_t (left_c - length k.up.given) (left_t - length k.down.given) a b c client client' client'' target target' target'' (Err answer) h k (omega (arith, k.within_c)) (omega (arith, k.within_t))) (ends answer k.why) k.fails
   where
     ends : (answer : Pumped) → RoundEnds left_c left_t b c client' client'' target' target'' k.up.given k.down.given (Err answer)
         → PumpEnds (left_c - length k.up.given) (left_t - length k.down.given) c client client'' target target'' answer
     ends Pumped.Moved z = absurd z
     ends Pumped.Idle z = absurd z
     ends Pumped.Ended z = absurd z
-    ends (Pumped.Fault Side.Client) z = (
-      failed-after client client' client'' h.relays.client_serves.later (same-unfailing h.up h.down client client' h.relays.client_serves) z.0,
-      of-either (λ x. read-due _ _ _ _ x.0) (λ x. x) z.2,
-    )
-    ends (Pumped.Fault Side.Target) z = (
-      failed-after target target' target'' h.relays.target_serves.later (same-unfailing h.down h.up target target' h.relays.target_serves) z.0,
-      of-either (λ x. x) (λ x. read-due _ _ _ _ x) z.2,
-    )
+    ends (Pumped.Fault Side.Client) z = failed-after client client' client'' h.relays.client_serves.later (same-unfailing h.up h.down None client client' h.relays.client_serves) z.0
+    ends (Pumped.Fault Side.Target) z = failed-after target target' target'' h.relays.target_serves.later (same-unfailing h.down h.up None target target' h.relays.target_serves) z.0
     ends Pumped.Memory z = of-either (λ x. read-due _ _ _ _ x.0) (λ x. read-due _ _ _ _ x) z.1
+
+-- behind a round in which no call failed
+unfailed : (left_c left_t : ℕ) (now : Relaying) (failed_c failed_t : Option Kind) (answer : Pumped) → (failed_c ≡ None) × (failed_t ≡ None) → FailedBy left_c left_t now None None answer → FailedBy left_c left_t now failed_c failed_t answer
+unfailed left_c left_t now failed_c failed_t answer e h =
+    subst (λ (z : Option Kind). FailedBy left_c left_t now z failed_t answer) (sym e.0) (subst (λ (z : Option Kind). FailedBy left_c left_t now None z answer) (sym e.1) h)
 
 -- the last round took nothing
 pub rests : (taken left_c left_t : ℕ) (a b c : Relaying) (client client' client'' target target' target'' : Seen) (took : PerSide) (answer : Pumped) → SoFar taken left_c left_t a b client client' target target'
     → Rounds left_c left_t b c client' client'' target' target'' (Ok took) → took.client ≡ 0 → took.target ≡ 0
-    → (AtRest left_c left_t c client client'' target target'' → PumpEnds left_c left_t c client client'' target target'' answer) → Pumps taken a c client client'' target target'' answer
-rests taken left_c left_t a b c client client' client'' target target' target'' took answer h k none none' why = pumps taken left_c left_t a c client client'' target target'' answer
+    → (AtRest left_c left_t c client client'' target target'' → PumpEnds left_c left_t c client client'' target target'' answer) → FailedBy left_c left_t c None None answer → Pumps taken a c client client'' target target'' answer
+rests taken left_c left_t a b c client client' client'' target target' target'' took answer h k none none' why fails = pumps taken left_c left_t a c client client'' target target'' answer k.failed_c k.failed_t
     (goes-on taken left_c left_t left_c left_t a b c client client' client'' target target' target'' (Ok took) h k (omega (arith, k.why.0, none)) (omega (arith, k.why.1, none'))) (why (record {
-      client_read = source-before left_c c.up client client' client'' h.relays.client_serves.later (at none none').client_read;
-      target_written = sink-before c.up target target' target'' h.relays.target_serves.later (at none none').target_written;
-      target_read = source-before left_t c.down target target' target'' h.relays.target_serves.later (at none none').target_read;
-      client_written = sink-before c.down client client' client'' h.relays.client_serves.later (at none none').client_written;
-    }))
+      client_read = source-before left_c c.up client client' client'' h.relays.client_serves.later h.relays.client_serves.tried (at none none').client_read;
+      target_written = sink-before c.up target target' target'' h.relays.target_serves.later h.relays.target_serves.tried (at none none').target_written;
+      target_read = source-before left_t c.down target target' target'' h.relays.target_serves.later h.relays.target_serves.tried (at none none').target_read;
+      client_written = sink-before c.down client client' client'' h.relays.client_serves.later h.relays.client_serves.tried (at none none').client_written;
+    })) (unfailed left_c left_t c k.failed_c k.failed_t answer k.fails fails)
   where
     at : took.client ≡ 0 → took.target ≡ 0 → AtRest left_c left_t c client' client'' target' target''
     at = k.why.2
@@ -190,12 +200,17 @@ none-given : (xs : List ℕ) → length xs ≤ 0 → xs ≡ []
 none-given [] h = refl
 none-given (x ∷ xs) h = absurd (omega (arith, h))
 
+so-far : (taken left_c left_t : ℕ) (was now : Relaying) (client client' target target' : Seen) (failed_c failed_t : Option Kind) → (failed_c ≡ None) × (failed_t ≡ None) → Rounded taken left_c left_t was now client client' target target' failed_c failed_t
+    → SoFar taken left_c left_t was now client client' target target'
+so-far taken left_c left_t was now client client' target target' failed_c failed_t e h =
+    subst (λ (z : Option Kind). Rounded taken left_c left_t was now client client' target target' None z) e.1 (subst (λ (z : Option Kind). Rounded taken left_c left_t was now client client' target target' z failed_t) e.0 h)
+
 -- the next round may take what the last left
 pub leaves : (taken left_c left_t : ℕ) (a b c : Relaying) (client client' client'' target target' target'' : Seen) (took : PerSide) → SoFar taken left_c left_t a b client client' target target'
     → Rounds left_c left_t b c client' client'' target' target'' (Ok took) → SoFar taken (left_c - took.client) (left_t - took.target) a c client client'' target target''
 leaves taken left_c left_t a b c client client' client'' target target' target'' took h k =
-    goes-on taken left_c left_t (left_c - took.client) (left_t - took.target) a b c client client' client'' target target' target'' (Ok took) h k
-    (omega (arith, k.why.0, k.within_c)) (omega (arith, k.why.1, k.within_t))
+    so-far _ _ _ _ _ _ _ _ _ _ _ k.fails (goes-on taken left_c left_t (left_c - took.client) (left_t - took.target) a b c client client' client'' target target' target'' (Ok took) h k
+    (omega (arith, k.why.0, k.within_c)) (omega (arith, k.why.1, k.within_t)))
 
 -- and then less is left
 pub falls : (left_c left_t : ℕ) (was now : Relaying) (client client' target target' : Seen) (took : PerSide) → Rounds left_c left_t was now client client' target target' (Ok took)
@@ -217,16 +232,25 @@ silent m h early = record { given' = none-given m.given h; ends' = unended m.end
     unended true x = absurd (omega (arith, x refl))
     unended false x = refl
 
-flushes : (was now : Relaying) (client client' target target' : Seen) (outcome : Result PerSide Pumped) (answer : Pumped) → Rounds 0 0 was now client client' target target' outcome
-    → FlushEnds now client client' target target' answer → Flushes was now client client' target target' answer
-flushes was now client client' target target' outcome answer h why = record {
+flushes : (was now : Relaying) (client client' target target' : Seen) (outcome : Result PerSide Pumped) (answer : Pumped) → (h : Rounds 0 0 was now client client' target target' outcome)
+    → FlushEnds now client client' target target' answer → FailedBy 0 0 now h.failed_c h.failed_t answer → Flushes was now client client' target target' answer
+flushes was now client client' target target' outcome answer h why fails = record {
   up = h.up;
   down = h.down;
+  failed_c = h.failed_c;
+  failed_t = h.failed_t;
   relays = h.relays;
   silent_up = silent h.up h.within_c h.early_c;
   silent_down = silent h.down h.within_t h.early_t;
   why = why;
+  fails = fails;
 }
+
+none-left : (n m : ℕ) (now : Relaying) (failed_c failed_t : Option Kind) (answer : Pumped) → FailedBy (0 - n) (0 - m) now failed_c failed_t answer → FailedBy 0 0 now failed_c failed_t answer
+none-left n m now failed_c failed_t answer h = subst (λ (k : ℕ). FailedBy k 0 now failed_c failed_t answer) (empty n) (subst (λ (k : ℕ). FailedBy (0 - n) k now failed_c failed_t answer) (empty m) h)
+  where
+    empty : (n : ℕ) → 0 - n ≡ 0
+    empty n = omega arith
 
 never : (was now : Way) (given : List ℕ) → Untaken 0 was now given → ⊥
 never was now given h = omega (arith, h.some)
@@ -235,25 +259,21 @@ of-one : {A B : Type 0} → (B → ⊥) → A ⊎ B → A
 of-one none (inl x) = x
 of-one none (inr x) = absurd (none x)
 
-of-other : {A B : Type 0} → (A → ⊥) → A ⊎ B → B
-of-other none (inl x) = absurd (none x)
-of-other none (inr x) = x
-
 pub flush-halts : (was now : Relaying) (client client' target target' : Seen) (answer : Pumped) → Rounds 0 0 was now client client' target target' (Err answer) → Flushes was now client client' target target' answer
-flush-halts was now client client' target target' answer h = flushes was now client client' target target' (Err answer) answer h (ends answer h.why)
+flush-halts was now client client' target target' answer h = flushes was now client client' target target' (Err answer) answer h (ends answer h.why) (none-left _ _ _ _ _ _ h.fails)
   where
     ends : (answer : Pumped) → RoundEnds 0 0 was now client client' target target' h.up.given h.down.given (Err answer) → FlushEnds now client client' target target' answer
     ends Pumped.Moved z = z
     ends Pumped.Idle z = absurd z
     ends Pumped.Ended z = absurd z
-    ends (Pumped.Fault Side.Client) z = (z.0, of-other (λ x. never _ _ _ x.0) z.2)
-    ends (Pumped.Fault Side.Target) z = (z.0, of-one (λ x. never _ _ _ x) z.2)
+    ends (Pumped.Fault Side.Client) z = z.0
+    ends (Pumped.Fault Side.Target) z = z.0
     ends Pumped.Memory z = never _ _ _ (of-one (λ x. never _ _ _ x) z.1).0
 
 pub flush-rests : (was now : Relaying) (client client' target target' : Seen) (took : PerSide) (answer : Pumped) → Rounds 0 0 was now client client' target target' (Ok took)
-    → (AtRest 0 0 now client client' target target' → FlushEnds now client client' target target' answer) → Flushes was now client client' target target' answer
-flush-rests was now client client' target target' took answer h why =
-    flushes was now client client' target target' (Ok took) answer h (why (h.why.2 (omega (arith, h.why.0, h.within_c)) (omega (arith, h.why.1, h.within_t))))
+    → (AtRest 0 0 now client client' target target' → FlushEnds now client client' target target' answer) → FailedBy 0 0 now None None answer → Flushes was now client client' target target' answer
+flush-rests was now client client' target target' took answer h why fails =
+    flushes was now client client' target target' (Ok took) answer h (why (h.why.2 (omega (arith, h.why.0, h.within_c)) (omega (arith, h.why.1, h.within_t)))) (unfailed 0 0 now h.failed_c h.failed_t answer h.fails fails)
 
 -- a round that halts leaves a side that isn't shut
 pub open-still : (left_c left_t : ℕ) (was now : Relaying) (client client' target target' : Seen) (answer : Pumped) → Rounds left_c left_t was now client client' target target' (Err answer)

@@ -1,4 +1,5 @@
 mod Sums
+mod Tryings
 mod Pieces
 mod Carrying
 mod Rounding

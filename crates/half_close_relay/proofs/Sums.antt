@@ -25,6 +25,9 @@ takes-on first told now bytes at n h k =
     k ∙ (ap (λ (t : Told). let u : Told = record t { taken = more t.taken (take n (drop at bytes)) } in u) h
     ∙ ap (λ (z : Option (List ℕ)). let u : Told = record first { taken = z } in u) (more-more first.taken (take at bytes) (take n (drop at bytes)) ∙ ap (more first.taken) (sym (take-add at n bytes))))
 
+pub takes-none : (told : Told) (bytes : List ℕ) → told ≡ record told { taken = more told.taken (take 0 bytes) }
+takes-none told bytes = sym (ap (λ (z : Option (List ℕ)). let t : Told = record told { taken = z } in t) (more-nil told.taken))
+
 -- nothing was given, and nothing taken
 pub gives-nothing : (told : Told) → told ≡ after_giving told [] false
 gives-nothing told = λ i. record told { given = sym (more-nil told.given) i }

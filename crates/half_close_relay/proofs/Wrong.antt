@@ -1,10 +1,13 @@
 -- Outcomes that the clauses refuse, each at small values.
-use Rattle.std.proofs.Common.{◌≡◌, ◌<◌, ◌-◌, ◌^◌, ◌⊎◌, inl, inr, ℕ, Bool, true, false, Some, Err, List, [], ◌∷◌, length, refl, ap, arith}
+use Rattle.std.proofs.Common.{◌≡◌, ◌<◌, ◌-◌, ◌^◌, ◌⊎◌, inl, inr, ℕ, Bool, true, false, Option, Some, None, Err, List, [], ◌∷◌, length, refl, ap, sym, ◌∙◌, arith}
+use Rattle.net_ends.specs.Faults.{no_kind, with_kind}
+use Rattle.net_ends.specs.declared.kinds.Kind.{Kind}
+use Rattle.net_ends.specs.declared.kinds.Kinds.{Kinds}
 use Rattle.half_close_relay.specs.declared.halt.Halt.{Halt}
 use Rattle.half_close_relay.specs.declared.pumped.Pumped.{Pumped}
 use Rattle.half_close_relay.specs.declared.pumped.Side.{Side}
-use Rattle.half_close_relay.specs.Ways.{Way, Moves, Seen, Failed, SinkRests, ReadIsDue, SinkIsDue, Untaken, TakeEnds, CarryEnds}
-use Rattle.half_close_relay.specs.Pumping.{Relaying, BothShut, RoundEnds, Pumps, PumpEnds}
+use Rattle.half_close_relay.specs.Ways.{Way, Move, Moves, Seen, Gives, Takes, Failed, SourceRests, SinkRests, SinkIsDue, Untaken, TakeEnds, CarryEnds}
+use Rattle.half_close_relay.specs.Pumping.{Relaying, BothShut, Serves, RoundEnds, SideFailed, FailedBy, Pumps, PumpEnds}
 
 -- a direction by its fields
 abbrev way : List ℕ → Bool → Bool → ℕ → ℕ → Way
@@ -103,13 +106,13 @@ no-read-due left_c left_t client client' target target' (inl h) = let e = h.unen
 no-read-due left_c left_t client client' target target' (inr h) = let e = h.unended in cc
 
 -- a fault of the client where it has ended, and nothing is to be sent to it
-no-call-due : (left_c left_t : ℕ) (client client' target target' : Seen)
-    → PumpEnds left_c left_t (record { up = way [] true false 0 0; down = running }) client client' target target' (Pumped.Fault Side.Client) → ⊥
-no-call-due left_c left_t client client' target target' h = neither h.1
+no-call-due : (left_c left_t : ℕ) (failed_c failed_t : Option Kind)
+    → FailedBy left_c left_t (record { up = way [] true false 0 0; down = running }) failed_c failed_t (Pumped.Fault Side.Client) → ⊥
+no-call-due left_c left_t failed_c failed_t h = neither h.0
   where
-    neither : ReadIsDue left_c (way [] true false 0 0) ⊎ SinkIsDue running → ⊥
-    neither (inl x) = let e = x.unended in cc
-    neither (inr x) = let e = x.due refl in cc
+    neither : SideFailed left_c (way [] true false 0 0) running failed_c → ⊥
+    neither (inl x) = let e = x.1.unended in cc
+    neither (inr x) = let e = x.1.due refl in cc
 
 -- the target gave 5 behind a fault of its own in the other direction
 gone-on : (client client' target target' : Seen) → RoundEnds 9 9 (record { up = way (1 ∷ []) false false 0 0; down = running }) (record { up = way (1 ∷ []) false false 0 0; down = way [] false false 1 1 })
@@ -132,3 +135,40 @@ hidden source source' rose h = omega (arith, rose, ap (λ (s : Seen). s.counts.f
 -- the sink took 5 behind a read that failed
 sent-on : (source source' sink sink' : Seen) → sink.told.taken ≡ Some [] → sink'.told.taken ≡ Some (5 ∷ []) → CarryEnds 9 running running source source' sink sink' [] (Err Halt.Source) → ⊥
 sent-on source source' sink sink' none some h = let e = ap (λ (s : Seen). s.told.taken) h.2 in cc
+
+-- the source gave 5, the sink took 5 and the sink was shut, each behind a call of that kind that was due to fail
+read-anyway : (failed : Option Kind) (old new : Seen) → old.counts.due ≡ Some (with_kind no_kind Kind.Read) → Gives (5 ∷ []) false failed old new → ⊥
+read-anyway failed old new e h = let nothing = (h.tried.reads _ e refl).0 in cc
+
+written-anyway : (failed : Option Kind) (old new : Seen) → old.counts.due ≡ Some (with_kind no_kind Kind.Write) → Takes (5 ∷ []) false failed old new → ⊥
+written-anyway failed old new e h = let nothing = h.tried.writes _ e refl in cc
+
+shut-anyway : (failed : Option Kind) (old new : Seen) → old.counts.due ≡ Some (with_kind no_kind Kind.Shut) → Takes [] true failed old new → ⊥
+shut-anyway failed old new e h = let unshut = h.tried.shuts _ e refl in cc
+
+-- a call of a side failed, and none is said to have
+forgiven : (from to : Move) (side side' : Seen) → side.counts.faults < side'.counts.faults → Serves from to None side side' → ⊥
+forgiven from to side side' rose h = omega (arith, rose, h.tried.faults refl)
+
+-- a failed read is said to be one alone, and a write that was due to fail is so no more
+spent : (from to : Move) (side side' : Seen) → side.counts.due ≡ Some (with_kind (with_kind no_kind Kind.Read) Kind.Write) → side'.counts.due ≡ Some no_kind → Serves from to (Some Kind.Read) side side' → ⊥
+spent from to side side' e e' h = let left = ap writes-due (sym e' ∙ h.tried.left _ e) in cc
+  where
+    writes-due : Option Kinds → Bool
+    writes-due None = false
+    writes-due (Some due) = due.writes
+
+-- a write failed for which nothing waits, and a call of the target failed too
+no-write : (left_c left_t : ℕ) (failed_t : Option Kind) → FailedBy left_c left_t (record { up = running; down = way [] true false 0 0 }) (Some Kind.Write) failed_t (Pumped.Fault Side.Client) → ⊥
+no-write left_c left_t failed_t h = neither h.0
+  where
+    neither : SideFailed left_c running (way [] true false 0 0) (Some Kind.Write) → ⊥
+    neither (inl x) = let e = x.0 in cc
+    neither (inr x) = let e = x.0 in cc
+
+both-failed : (left_c left_t : ℕ) (now : Relaying) (failed_c : Option Kind) → FailedBy left_c left_t now failed_c (Some Kind.Read) (Pumped.Fault Side.Client) → ⊥
+both-failed left_c left_t now failed_c h = let e = h.1 in cc
+
+-- a read is due to fail, and its source is said to rest
+passed-by : (left : ℕ) (source source' : Seen) → 0 < left → source.counts.due ≡ Some (with_kind no_kind Kind.Read) → SourceRests left running source source' → ⊥
+passed-by left source source' some e h = let undue = (h.idle refl some).2 _ e in cc

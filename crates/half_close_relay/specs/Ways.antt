@@ -1,8 +1,11 @@
 -- One direction of a relay, from the link that gives, its source, to the link that takes, its sink.
-use Rattle.std.specs.Prelude.{ℕ, zero, suc, ◌≡◌, ◌≢◌, ◌<◌, ◌≤◌, ◌+◌, ◌-◌, ◌^◌, min, Bool, true, false, ◌||◌, Some, Result, Ok, Err, List, [], ◌++◌, length}
+use Rattle.std.specs.Prelude.{ℕ, zero, suc, ◌≡◌, ◌≢◌, ◌<◌, ◌≤◌, ◌+◌, ◌-◌, ◌^◌, min, Bool, true, false, ◌||◌, Option, Some, None, Result, Ok, Err, List, [], ◌∷◌, ◌++◌, length}
 use mathlib.Core.List.{IsPrefix}
 use Rattle.net_ends.specs.Counts.{Counts, Later, Rose}
+use Rattle.net_ends.specs.Faults.{Tried, is_among}
 use Rattle.net_ends.specs.Told.{Told, Arrival, more}
+use Rattle.net_ends.specs.declared.kinds.Kind.{Kind}
+use Rattle.net_ends.specs.declared.kinds.Kinds.{Kinds}
 use Rattle.half_close_relay.specs.declared.halt.Halt.{Halt}
 
 -- What waits for the sink, whether the source has ended and the sink was shut, and how many bytes were taken and sent. A
@@ -77,16 +80,20 @@ pub record KeepsArrival (old new : Told) : Type 0 where
   pub behind : EndsBehind old → EndsBehind new
   pub first : GivesFirst old → GivesFirst new
 
--- a source gave these bytes, and its end where it ended
-pub record Gives (given : List ℕ) (ends : Bool) (old new : Seen) : Type 0 where
+-- A source gave these bytes, and its end where it ended. No call of it failed but the last, if one did: where a read was due to
+-- fail nothing was read.
+pub record Gives (given : List ℕ) (ends : Bool) (failed : Option Kind) (old new : Seen) : Type 0 where
   pub told' : new.told ≡ after_giving old.told given ends
   pub later : Later old.counts new.counts
   pub arrival : KeepsArrival old.told new.told
+  pub tried : Tried old.counts new.counts ((given ≡ []) × (ends ≡ false)) (Unit {0}) (Unit {0}) failed
 
--- a sink took these bytes, and was shut
-pub record Takes (sent : List ℕ) (shuts : Bool) (old new : Seen) : Type 0 where
+-- A sink took these bytes, and was shut. No call of it failed but the last, if one did: where a write was due to fail nothing was
+-- sent, and where a shut was it isn't shut.
+pub record Takes (sent : List ℕ) (shuts : Bool) (failed : Option Kind) (old new : Seen) : Type 0 where
   pub told' : new.told ≡ after_taking old.told sent shuts
   pub later : Later old.counts new.counts
+  pub tried : Tried old.counts new.counts (Unit {0}) (sent ≡ []) (shuts ≡ false) failed
 
 -- ---- why no more is done
 
@@ -95,13 +102,17 @@ pub record Failed (old new : Seen) : Type 0 where
   pub rose : Rose old.counts.faults new.counts.faults
   pub allowed : old.told.unfailing ≡ false
 
--- a source that hasn't ended, and may be read, answered NotYet
-pub record SourceRests (left : ℕ) (now : Way) (old new : Seen) : Type 0 where
-  pub idle : now.ended ≡ false → 0 < left → IsIdle new.told × Rose old.counts.idle_reads new.counts.idle_reads
+-- where the link tells which kinds of its calls are due to fail, this one isn't
+abbrev pub IsUndue : Kind → Counts → Type 0
+IsUndue kind counts = (due : Kinds) → counts.due ≡ Some due → is_among due kind ≡ false
 
--- where bytes wait the sink answered NotYet, and where it is to be shut it was
+-- a source that hasn't ended, and may be read, answered NotYet, and no read was due to fail
+pub record SourceRests (left : ℕ) (now : Way) (old new : Seen) : Type 0 where
+  pub idle : now.ended ≡ false → 0 < left → IsIdle new.told × Rose old.counts.idle_reads new.counts.idle_reads × IsUndue Kind.Read old.counts
+
+-- where bytes wait the sink answered NotYet, and no write was due to fail; and where it is to be shut it was
 pub record SinkRests (now : Way) (old new : Seen) : Type 0 where
-  pub full : 0 < length now.waiting → IsFull new.told × Rose old.counts.idle_writes new.counts.idle_writes
+  pub full : 0 < length now.waiting → IsFull new.told × Rose old.counts.idle_writes new.counts.idle_writes × IsUndue Kind.Write old.counts
   pub due : now.ended ≡ true → now.waiting ≡ [] → now.shut ≡ true
 
 -- a source may be read: it hasn't ended, and so many bytes may still be taken of it
@@ -114,6 +125,11 @@ pub record SinkIsDue (way : Way) : Type 0 where
   pub unshut : way.shut ≡ false
   pub due : way.waiting ≡ [] → way.ended ≡ true
 
+-- and what: a write where bytes wait, and else a shut
+abbrev pub sink_kind : List ℕ → Kind
+sink_kind [] = Kind.Shut
+sink_kind (byte ∷ bytes) = Kind.Write
+
 -- a source that may be read gave nothing, and its direction is as it was
 pub record Untaken (left : ℕ) (was now : Way) (given : List ℕ) : Type 0 where
   pub same : now ≡ was
@@ -121,6 +137,15 @@ pub record Untaken (left : ℕ) (was now : Way) (given : List ℕ) : Type 0 wher
   pub unended : was.ended ≡ false
   pub unshut : was.shut ≡ false
   pub some : 0 < left
+
+-- which call of the source failed, and which of the sink
+abbrev pub source_failed : Result ℕ Halt → Option Kind
+source_failed (Err Halt.Source) = Some Kind.Read
+source_failed _ = None
+
+abbrev pub sink_failed : {A : Type 0} → Way → Result A Halt → Option Kind
+sink_failed now (Err Halt.Sink) = Some (sink_kind now.waiting)
+sink_failed now _ = None
 
 -- ---- a piece from the source
 
@@ -139,7 +164,7 @@ pub record TakesPiece (left : ℕ) (was now : Way) (old new : Seen) (outcome : R
   pub silent : was.ended ≡ true → (given ≡ []) × (ends ≡ false)
   pub within : length given ≤ left
   pub early : ends ≡ true → length given < left
-  pub gives : Gives given ends old new
+  pub gives : Gives given ends (source_failed outcome) old new
   pub why : TakeEnds left was now old new given outcome
 
 -- ---- what waits, to the sink
@@ -158,7 +183,7 @@ pub record SendsOn {A : Type 0} (was now : Way) (old new : Seen) (outcome : Resu
   pub now' : now ≡ record was { waiting = now.waiting; shut = shuts || was.shut; sent = total was.sent (length sent) }
   pub once : shuts ≡ true → was.shut ≡ false
   pub due : shuts ≡ true → (was.ended ≡ true) × (now.waiting ≡ [])
-  pub takes : Takes sent shuts old new
+  pub takes : Takes sent shuts (sink_failed now outcome) old new
   pub why : GiveEnds now old new outcome
 
 -- ---- both
@@ -176,6 +201,6 @@ pub record Carries (left : ℕ) (was now : Way) (source source' sink sink' : See
   pub moves : Moves was now move
   pub within : length move.given ≤ left
   pub early : move.ends ≡ true → length move.given < left
-  pub gives : Gives move.given move.ends source source'
-  pub takes : Takes move.sent move.shuts sink sink'
+  pub gives : Gives move.given move.ends (source_failed outcome) source source'
+  pub takes : Takes move.sent move.shuts (sink_failed now outcome) sink sink'
   pub why : CarryEnds left was now source source' sink sink' move.given outcome

@@ -1,7 +1,8 @@
 ghost use Rattle.std.specs.Prelude.{◌≡◌, ◌≤◌, length, take, drop, vec_len};
 ghost use Rattle.net_ends.specs.Told.{more};
 ghost use Rattle.net_ends.specs.Counts.{Later};
-ghost use Rattle.half_close_relay.specs.Sending.{SendEnds};
+ghost use Rattle.net_ends.specs.Faults.{Tried};
+ghost use Rattle.half_close_relay.specs.Sending.{SendEnds, failed_sending};
 
 use net_ends::{Link, Writing};
 
@@ -18,6 +19,7 @@ pub fn send_all<L: Link>(link: &mut L, bytes: &[u8]) -> (usize, Sent)
     ensures within { result.0 ≤ length bytes.now }
     ensures told { L.told link.new ≡ record (L.told link.old) { taken = more (L.told link.old).taken (take result.0 bytes.now) } }
     ensures later { Later (L.counts link.old) (L.counts link.new) }
+    ensures tried { Tried (L.counts link.old) (L.counts link.new) (Unit {0}) (result.0 ≡ 0) (Unit {0}) (failed_sending result.1) }
     ensures ends { SendEnds (L.told link.new) (L.counts link.old) (L.counts link.new) (drop result.0 bytes.now) result.1 }
 {
     let mut at = 0;

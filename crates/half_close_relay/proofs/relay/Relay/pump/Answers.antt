@@ -1,4 +1,4 @@
-use Rattle.std.proofs.Common.{arith}
+use Rattle.std.proofs.Common.{refl, arith}
 use Rattle.half_close_relay.proofs.Going.{starts, leaves, falls, halts, rests, either}
 use Rattle.half_close_relay.proofs.relay.Relay.pump.Goals as goal
 
@@ -16,12 +16,12 @@ loop-took-preserved g c = leaves _ _ _ _ _ _ _ _ _ _ _ _ _ c.loop-took.invariant
 
 pub returns-then-is_through-clause-pumps : goal.returns-then-is_through-clause-pumps
 returns-then-is_through-clause-pumps g c =
-    rests _ _ _ _ _ _ _ _ _ _ _ _ _ _ c.loop-took.invariant c.in-Ok.ensures c.if-took-eq0.true c.if-took-eq0-2.true (λ rest. c.is_through.ensures.0 c.if-is_through.true)
+    rests _ _ _ _ _ _ _ _ _ _ _ _ _ _ c.loop-took.invariant c.in-Ok.ensures c.if-took-eq0.true c.if-took-eq0-2.true (λ rest. c.is_through.ensures.0 c.if-is_through.true) (refl, refl)
 
 pub returns-then-left-eq0-clause-pumps : goal.returns-then-left-eq0-clause-pumps
 returns-then-left-eq0-clause-pumps g c =
-    rests _ _ _ _ _ _ _ _ _ _ _ _ _ _ c.loop-took.invariant c.in-Ok.ensures c.if-took-eq0.true c.if-took-eq0-2.true (λ rest. (rest, either c.then-left-eq0.either))
+    rests _ _ _ _ _ _ _ _ _ _ _ _ _ _ c.loop-took.invariant c.in-Ok.ensures c.if-took-eq0.true c.if-took-eq0-2.true (λ rest. (rest, either c.then-left-eq0.either)) (refl, refl)
 
 pub returns-clause-pumps : goal.returns-clause-pumps
 returns-clause-pumps g c =
-    rests _ _ _ _ _ _ _ _ _ _ _ _ _ _ c.loop-took.invariant c.in-Ok.ensures c.if-took-eq0.true c.if-took-eq0-2.true (λ rest. (rest, omega (arith, c.if-left-eq0.false), omega (arith, c.if-left-eq0-2.false)))
+    rests _ _ _ _ _ _ _ _ _ _ _ _ _ _ c.loop-took.invariant c.in-Ok.ensures c.if-took-eq0.true c.if-took-eq0-2.true (λ rest. (rest, omega (arith, c.if-left-eq0.false), omega (arith, c.if-left-eq0-2.false))) (refl, refl)
