@@ -118,6 +118,29 @@ end 1 targetfault
 ",
     ],
     [
+        "the first write to the target",
+        "\
+dial 1 up 192.0.2.9:40000
+fault 1 target write
+turn 1 1
+client 1 05010005010001C633640A005068656C6C6F
+turn 1 1
+turn 1 1
+clientend 1
+targetend 1
+",
+        "\
+turn 1 1 gen 1 took 18 0 sent 2 0 again
+turn 1 1 gen 1 took 0 0 sent 10 0 again
+close
+see 1 1
+turn 1 1 gen 1 took 0 0 sent 0 5 done targetfault
+client 1 050005000001c00002099c40
+target 1 68656c6c6f
+end 1 targetfault
+",
+    ],
+    [
         "calls of a target whose dial is refused",
         "\
 fault 1 target read
