@@ -31,7 +31,7 @@ pub use endpoint::Endpoint;
 pub use fault::AddrFault;
 pub use front::{BadAt, BadKind, Front, Span};
 pub use host::Host;
-pub use name::Name;
+pub use name::{Name, is_name_byte};
 pub use number::{read_number, write_number};
 pub use pattern::{HostPattern, Pattern, PortTest};
 pub use port_text::read_port_part;

@@ -22,7 +22,8 @@ impl Model for Name {
     ghost invariant = { λ n. (1 ≤ n.len) × (n.len ≤ 255) };
 }
 
-fn is_name_byte(byte: u8) -> bool
+/// A byte of a name: from 21 to 7E, the characters of ASCII that print.
+pub fn is_name_byte(byte: u8) -> bool
     ensures { result ≡ is_name_byte_of byte }
 {
     33 <= byte && byte <= 126

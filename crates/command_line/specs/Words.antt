@@ -6,8 +6,8 @@ use Rattle.addr_pattern.specs.Cuts.{last_cut}
 use Rattle.addr_pattern.specs.Names.{name_of}
 use Rattle.addr_pattern.specs.Reading.{endpoint_read}
 use Rattle.clap.specs.Words.{Row, first_of}
-use Rattle.conf_model.specs.declared.protocol.Command.{Command}
-use Rattle.command_line.specs.declared.asked.Asked.{Asked}
+use Rattle.socks_grammar.specs.declared.protocol.Command.{Command}
+use Rattle.command_line.specs.declared.asked.Invocation.{Invocation}
 use Rattle.command_line.specs.declared.destination.Destination.{Destination}
 use Rattle.command_line.specs.Table.{check_app, decide_app, replay_app, taken}
 
@@ -18,10 +18,10 @@ pub data Wanted : Type 0 where
   Decide : List ℕ → Endpoint → Endpoint → Option (List ℕ) → Command → Wanted
   Replay : Wanted
 
-abbrev pub wanted : Asked → Wanted
-wanted (Asked.Check file) = Wanted.Check file.now
-wanted (Asked.Decide file from to name command) = Wanted.Decide file.now from to name command
-wanted Asked.Replay = Wanted.Replay
+abbrev pub wanted : Invocation → Wanted
+wanted (Invocation.Check file) = Wanted.Check file.now
+wanted (Invocation.Decide file from to name command) = Wanted.Decide file.now from to name command
+wanted Invocation.Replay = Wanted.Replay
 
 -- ---- single words
 

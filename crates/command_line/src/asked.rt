@@ -1,9 +1,9 @@
 use addr_pattern::{Endpoint, Name};
-use conf_model::Command;
+use socks_grammar::Command;
 
 /// What the words ask for.
 #[derive(Drop)]
-pub enum Asked<'a> {
+pub enum Invocation<'a> {
     /// The canonical text of a file's configuration.
     Check {
         file: &'a str,

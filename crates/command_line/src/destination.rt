@@ -2,7 +2,7 @@ ghost use Rattle.std.specs.Prelude.{◌≡◌};
 ghost use Rattle.command_line.specs.Words.{command_of, takes_name as takes_name_of};
 
 use addr_pattern::{Endpoint, Name, cut_last, is_word};
-use conf_model::Command;
+use socks_grammar::Command;
 
 /// An endpoint, and the name under which it was asked for, if any.
 #[derive(Drop)]

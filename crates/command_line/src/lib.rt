@@ -6,7 +6,7 @@ mod destination;
 mod read;
 mod table;
 
-pub use asked::Asked;
+pub use asked::Invocation;
 pub use read::read_words;
 
 #[cfg(test)]

@@ -4,12 +4,12 @@ ghost use Rattle.std.specs.String.{string_bytes};
 ghost use Rattle.clap.specs.Words.{first_of, found_of, rows_of};
 ghost use Rattle.command_line.specs.Words.{asked_of, check_of, checked, decide_of, decided, replay_of, wanted, wanted_words};
 
-use crate::asked::Asked;
+use crate::asked::Invocation;
 use crate::destination::{Destination, read_command, takes_name};
 use crate::table::{check_command, decide_command, matches_in, replay_command};
 use addr_pattern::{Endpoint, is_word};
 use clap::ArgMatches;
-use conf_text::Memory;
+use lists::Memory;
 use std::alloc::Global;
 
 /// The word of an argument.
@@ -19,17 +19,17 @@ fn value<'a>(matches: &ArgMatches<'a>, id: &str) -> Option<&'a str>
     matches.get_str(id)
 }
 
-fn asked_check<'a>(matches: &ArgMatches<'a>) -> Option<Asked<'a>>
+fn asked_check<'a>(matches: &ArgMatches<'a>) -> Option<Invocation<'a>>
     ensures { option_map wanted result ≡ checked (rows_of (found_of matches.now)) }
 {
     match value(matches, "file") {
         None => None,
-        Some(file) => Some(Asked::Check { file }),
+        Some(file) => Some(Invocation::Check { file }),
     }
 }
 
 /// What `decide` is asked with these words, unless one of them says nothing.
-fn decision<'a>(file: &'a str, from: &str, to: &str, command: &str) -> Option<Asked<'a>>
+fn decision<'a>(file: &'a str, from: &str, to: &str, command: &str) -> Option<Invocation<'a>>
     ensures { option_map wanted result ≡ wanted_words file.now from.now to.now command.now }
 {
     let Ok(from) = Endpoint::read(from.as_bytes()) else {
@@ -44,7 +44,7 @@ fn decision<'a>(file: &'a str, from: &str, to: &str, command: &str) -> Option<As
     if destination.name.is_some() && !takes_name(command) {
         return None;
     }
-    Some(Asked::Decide {
+    Some(Invocation::Decide {
         file,
         from,
         to: destination.to,
@@ -53,7 +53,7 @@ fn decision<'a>(file: &'a str, from: &str, to: &str, command: &str) -> Option<As
     })
 }
 
-fn asked_decide<'a>(matches: &ArgMatches<'a>) -> Option<Asked<'a>>
+fn asked_decide<'a>(matches: &ArgMatches<'a>) -> Option<Invocation<'a>>
     ensures { option_map wanted result ≡ decided (rows_of (found_of matches.now)) }
 {
     let Some(file) = value(matches, "file") else {
@@ -71,7 +71,7 @@ fn asked_decide<'a>(matches: &ArgMatches<'a>) -> Option<Asked<'a>>
     decision(file, from, to, command)
 }
 
-fn read_check<'a>(alloc: Global, words: &'a [String]) -> Result<Option<Asked<'a>>, Memory>
+fn read_check<'a>(alloc: Global, words: &'a [String]) -> Result<Option<Invocation<'a>>, Memory>
     ensures { IfOk result (λ asked. option_map wanted asked ≡ check_of (map string_bytes words.now)) }
 {
     let Ok(command) = check_command(alloc) else {
@@ -83,7 +83,7 @@ fn read_check<'a>(alloc: Global, words: &'a [String]) -> Result<Option<Asked<'a>
     }
 }
 
-fn read_decide<'a>(alloc: Global, words: &'a [String]) -> Result<Option<Asked<'a>>, Memory>
+fn read_decide<'a>(alloc: Global, words: &'a [String]) -> Result<Option<Invocation<'a>>, Memory>
     ensures { IfOk result (λ asked. option_map wanted asked ≡ decide_of (map string_bytes words.now)) }
 {
     let Ok(command) = decide_command(alloc) else {
@@ -95,19 +95,19 @@ fn read_decide<'a>(alloc: Global, words: &'a [String]) -> Result<Option<Asked<'a
     }
 }
 
-fn read_replay<'a>(alloc: Global, words: &'a [String]) -> Result<Option<Asked<'a>>, Memory>
+fn read_replay<'a>(alloc: Global, words: &'a [String]) -> Result<Option<Invocation<'a>>, Memory>
     ensures { IfOk result (λ asked. option_map wanted asked ≡ replay_of (map string_bytes words.now)) }
 {
     match matches_in(replay_command(alloc), words)? {
         None => Ok(None),
-        Some(_) => Ok(Some(Asked::Replay)),
+        Some(_) => Ok(Some(Invocation::Replay)),
     }
 }
 
 /// What the words behind the program's name ask for; `None` where they fit no command. The first word is the command's
 /// name. The others are its arguments: options, of which no command has any yet, may stand in any place, `--` ends them,
 /// and any other word of two or more bytes that begins with `-` is refused where an option may stand.
-pub fn read_words<'a>(alloc: Global, words: &'a [String]) -> Result<Option<Asked<'a>>, Memory>
+pub fn read_words<'a>(alloc: Global, words: &'a [String]) -> Result<Option<Invocation<'a>>, Memory>
     ensures { IfOk result (λ asked. option_map wanted asked ≡ asked_of (map string_bytes words.now)) }
 {
     let Some((first, rest)) = words.split_first() else {

@@ -6,7 +6,7 @@ ghost use Rattle.command_line.specs.Table.{bare, check_app, decide_app, needed a
 
 use clap::error::ErrorKind;
 use clap::{Arg, ArgAction, ArgMatches, Command};
-use conf_text::Memory;
+use lists::Memory;
 use std::alloc::{AllocError, Global};
 
 /// A word that has to stand.

@@ -1,6 +1,6 @@
 use super::*;
 use addr_pattern::Endpoint;
-use conf_model::Command;
+use socks_grammar::Command;
 use std::alloc::Global;
 use std::test::Fail;
 
@@ -19,9 +19,9 @@ fn asks(alloc: Global, text: &str, command: &str, file: &str) -> Option<bool> {
     let asked = read_words(alloc, list.as_slice()).ok()?;
     Some(match asked {
         None => command == "usage",
-        Some(Asked::Check { file: named }) => command == "check" && named == file,
-        Some(Asked::Replay) => command == "replay",
-        Some(Asked::Decide { file: named, .. }) => command == "decide" && named == file,
+        Some(Invocation::Check { file: named }) => command == "check" && named == file,
+        Some(Invocation::Replay) => command == "replay",
+        Some(Invocation::Decide { file: named, .. }) => command == "decide" && named == file,
     })
 }
 
@@ -108,7 +108,7 @@ fn decides(alloc: Global, text: &str, command: Command, name: Option<&str>) -> O
     let list = list_of(alloc, text)?;
     let asked = read_words(alloc, list.as_slice()).ok()?;
     let Some(
-        Asked::Decide {
+        Invocation::Decide {
             from,
             to,
             name: read,

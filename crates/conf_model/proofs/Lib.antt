@@ -1,5 +1,3 @@
-pub mod GrammarLaws
-pub mod Exact
 pub mod Walks
 pub mod Reading
 pub mod Adding

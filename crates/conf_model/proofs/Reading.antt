@@ -4,14 +4,14 @@ use Rattle.std.specs.Prelude.{IfOk, IfErr}
 use Rattle.conf_text.specs.declared.fault.TextFault.{TextFault}
 use Rattle.conf_text.specs.declared.statement.Statement.{Statement}
 use Rattle.conf_text.specs.Statements.{AreStatements, Faulty}
-use Rattle.conf_model.specs.declared.config.Config.{Config}
+use Rattle.conf_types.specs.declared.entries.Entries.{Entries}
 use Rattle.conf_model.specs.declared.fault.ConfFault.{ConfFault}
 use Rattle.conf_model.specs.declared.fault.ConfKind.{ConfKind}
 use Rattle.conf_model.specs.Reads.{OnConfig}
 use Rattle.conf_model.specs.Settings.{config_of}
 use Rattle.conf_model.specs.Taking.{fault_of_text}
 
-pub said-is-read : (text : List ℕ) (statements given : List Statement) (r : Result Config ConfFault) → AreStatements text statements → given ≡ statements →
+pub said-is-read : (text : List ℕ) (statements given : List Statement) (r : Result Entries ConfFault) → AreStatements text statements → given ≡ statements →
     IfOk r (λ config. config_of given ≡ Ok config) → IfErr r (λ fault. fault.kind ≢ ConfKind.Memory → config_of given ≡ Err fault) → OnConfig text r
 said-is-read text statements given (Ok config) are same ok err = record { statements = given; are = subst (AreStatements text) (sym same) are; say = ok }
 said-is-read text statements given (Err fault) are same ok err =

@@ -14,12 +14,12 @@ use Rattle.conf_model.specs.declared.given.Protocols.{Protocols}
 use Rattle.conf_model.specs.declared.given.Versions.{Versions}
 use Rattle.conf_model.specs.declared.keys.BlockKind.{BlockKind}
 use Rattle.conf_model.specs.declared.keys.EntryKey.{EntryKey}
-use Rattle.conf_model.specs.declared.protocol.Version.{Version}
-use Rattle.conf_model.specs.declared.route.Login.{Login}
-use Rattle.conf_model.specs.declared.route.Route.{Route}
-use Rattle.conf_model.specs.declared.route.Via.{Via}
-use Rattle.conf_model.specs.declared.rule.ClientRule.{ClientRule}
-use Rattle.conf_model.specs.declared.rule.SocksRule.{SocksRule}
+use Rattle.socks_grammar.specs.declared.protocol.Version.{Version}
+use Rattle.socks_grammar.specs.declared.login.Login.{Login}
+use Rattle.conf_types.specs.declared.route.Route.{Route}
+use Rattle.conf_types.specs.declared.route.Via.{Via}
+use Rattle.conf_types.specs.declared.rule.ClientRule.{ClientRule}
+use Rattle.conf_types.specs.declared.rule.SocksRule.{SocksRule}
 use Rattle.conf_model.specs.Keys.{allows, entry_key}
 use Rattle.conf_model.specs.Values.{client_methods_fault, commands_of, hop_of, login_of, number_of, pattern_of, protocols_of, rule_methods_of, unless_fault, users_of, versions_of}
 

@@ -6,14 +6,14 @@ use Rattle.addr_pattern.specs.declared.endpoint.Endpoint.{Endpoint}
 use Rattle.addr_pattern.specs.declared.pattern.Pattern.{Pattern}
 use Rattle.addr_pattern.specs.AddressText.{addr_text, number_text}
 use Rattle.addr_pattern.specs.PatternText.{pattern_text}
-use Rattle.conf_model.specs.declared.config.Config.{Config}
-use Rattle.conf_model.specs.declared.protocol.Method.{Method}
-use Rattle.conf_model.specs.declared.protocol.Version.{Version}
-use Rattle.conf_model.specs.declared.route.Login.{Login}
-use Rattle.conf_model.specs.declared.route.Route.{Route}
-use Rattle.conf_model.specs.declared.route.Via.{Via}
-use Rattle.conf_model.specs.declared.rule.ClientRule.{ClientRule}
-use Rattle.conf_model.specs.declared.rule.SocksRule.{SocksRule}
+use Rattle.conf_types.specs.declared.entries.Entries.{Entries}
+use Rattle.socks_grammar.specs.declared.protocol.Method.{Method}
+use Rattle.socks_grammar.specs.declared.protocol.Version.{Version}
+use Rattle.socks_grammar.specs.declared.login.Login.{Login}
+use Rattle.conf_types.specs.declared.route.Route.{Route}
+use Rattle.conf_types.specs.declared.route.Via.{Via}
+use Rattle.conf_types.specs.declared.rule.ClientRule.{ClientRule}
+use Rattle.conf_types.specs.declared.rule.SocksRule.{SocksRule}
 
 -- lines, each with its end
 abbrev pub text_of : List (List ℕ) → List ℕ
@@ -52,7 +52,7 @@ abbrev pub method_words : List Method → List (List ℕ)
 method_words methods = map method_word methods
 
 -- the methods and the limits of time always have a line
-abbrev pub setting_lines : Config → List (List ℕ)
+abbrev pub setting_lines : Entries → List (List ℕ)
 setting_lines c =
     entry (codes "socksmethod") (join_with_byte 32 (method_words c.methods))
     ∷ entry (codes "timeout.negotiate") (number_text c.negotiate)
@@ -130,7 +130,7 @@ route_lines r = block (codes "route") (pattern_lines r.from r.to ++ via_lines r.
 
 -- ---- the whole
 
-abbrev pub config_lines : Config → List (List ℕ)
+abbrev pub config_lines : Entries → List (List ℕ)
 config_lines c =
     map internal_line c.internals
     ++ (map external_line c.externals
@@ -140,5 +140,5 @@ config_lines c =
     ++ (flat_map socks_lines c.socks
     ++ flat_map route_lines c.routes)))))
 
-abbrev pub canonical_text : Config → List ℕ
+abbrev pub canonical_text : Entries → List ℕ
 canonical_text c = text_of (config_lines c)

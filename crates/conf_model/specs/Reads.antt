@@ -3,21 +3,20 @@ use Rattle.std.specs.Prelude.{◌≡◌, ◌≢◌, ◌≤◌, ◌⊎◌, ℕ, R
 use Rattle.conf_text.specs.declared.fault.TextFault.{TextFault}
 use Rattle.conf_text.specs.declared.statement.Statement.{Statement}
 use Rattle.conf_text.specs.Statements.{AreStatements, Faulty, longest}
-use Rattle.conf_model.specs.declared.config.Config.{Config}
+use Rattle.conf_types.specs.declared.entries.Entries.{Entries}
 use Rattle.conf_model.specs.declared.fault.ConfFault.{ConfFault}
 use Rattle.conf_model.specs.declared.fault.ConfKind.{ConfKind}
 use Rattle.conf_model.specs.Canonical.{canonical_text}
-use Rattle.conf_model.specs.Kept.{IsConfig}
 use Rattle.conf_model.specs.Settings.{config_of}
 
 -- the text is statements, and these say this configuration, or have this first fault
-pub record Says (text : List ℕ) (said : Result Config ConfFault) : Type 0 where
+pub record Says (text : List ℕ) (said : Result Entries ConfFault) : Type 0 where
   pub statements : List Statement
   pub are : AreStatements text statements
   pub say : config_of statements ≡ said
 
 -- the text is this configuration
-abbrev pub IsConfigText : List ℕ → Config → Type 0
+abbrev pub IsConfigText : List ℕ → Entries → Type 0
 IsConfigText text config = Says text (Ok config)
 
 -- the line of a text's fault; a text that is too long has none
@@ -41,10 +40,10 @@ pub record IsTextFault (text : List ℕ) (fault : ConfFault) : Type 0 where
 abbrev pub HasFault : List ℕ → ConfFault → Type 0
 HasFault text fault = fault.kind ≢ ConfKind.Memory → IsTextFault text fault ⊎ Says text (Err fault)
 
-abbrev pub OnConfig : List ℕ → Result Config ConfFault → Type 0
+abbrev pub OnConfig : List ℕ → Result Entries ConfFault → Type 0
 OnConfig text (Ok config) = IsConfigText text config
 OnConfig text (Err fault) = HasFault text fault
 
 -- the canonical text of a configuration is that configuration, where it isn't too long for a text
-abbrev pub IsReadAgain : Config → Type 0
-IsReadAgain config = IsConfig config → length (canonical_text config) ≤ longest → IsConfigText (canonical_text config) config
+abbrev pub IsReadAgain : Entries → Type 0
+IsReadAgain config = length (canonical_text config) ≤ longest → IsConfigText (canonical_text config) config

@@ -3,18 +3,19 @@ use Rattle.std.specs.Prelude.{ℕ, ◌==◌, nat_lt, if◌then◌else◌, Option
 use Rattle.conf_text.specs.declared.statement.Entry.{Entry}
 use Rattle.conf_text.specs.declared.statement.Statement.{Statement}
 use Rattle.addr_pattern.specs.declared.endpoint.Endpoint.{Endpoint}
-use Rattle.conf_model.specs.declared.config.Config.{Config}
+use Rattle.conf_types.specs.declared.entries.Entries.{Entries}
 use Rattle.conf_model.specs.declared.fault.ConfFault.{ConfFault}
 use Rattle.conf_model.specs.declared.fault.ConfKind.{ConfKind}
 use Rattle.conf_model.specs.declared.given.Given.{Given}
 use Rattle.conf_model.specs.declared.given.Hop.{Hop}
 use Rattle.conf_model.specs.declared.keys.BlockKind.{BlockKind}
 use Rattle.conf_model.specs.declared.keys.TopKey.{TopKey}
-use Rattle.conf_model.specs.declared.protocol.Method.{Method}
+use Rattle.socks_grammar.specs.declared.protocol.Method.{Method}
 use Rattle.conf_model.specs.declared.setting.Setting.{Setting}
 use Rattle.conf_model.specs.Blocks.{at_line, client_rule, entries_onto, is_kept, nothing_given, route, socks_rule}
 use Rattle.conf_model.specs.Keys.{block_kind, top_key}
-use Rattle.conf_model.specs.Values.{address_of, client_methods_fault, endpoint_of, is_empty, is_interface, is_loopback, methods_of, number_of, unless_fault}
+use Rattle.conf_model.specs.Values.{address_of, client_methods_fault, endpoint_of, is_empty, is_interface, methods_of, number_of, unless_fault}
+use Rattle.conf_types.specs.Kept.{is_loopback}
 
 -- ---- entries at the top
 
@@ -89,11 +90,11 @@ said line key values (Some entries) = block_of_kind line entries (block_kind key
 abbrev pub setting_of : Statement → Result Setting ConfFault
 setting_of s = said s.line s.key s.values s.block
 
-abbrev pub within : {A : Type 0} → ℕ → List A → Config → Option Config
+abbrev pub within : {A : Type 0} → ℕ → List A → Entries → Option Entries
 within limit xs c = if nat_lt (length xs) limit then Some c else None
 
 -- how a setting changes a configuration, unless it is one beyond a limit: a list gets one more, and anything else is replaced
-abbrev pub set : Config → Setting → Option Config
+abbrev pub set : Entries → Setting → Option Entries
 set c (Setting.Internal e) = within 16 c.internals (record c { internals = c.internals ++ e ∷ [] })
 set c (Setting.External a) = within 16 c.externals (record c { externals = c.externals ++ a ∷ [] })
 set c (Setting.Control e) = Some (record c { control = Some e })
@@ -105,23 +106,23 @@ set c (Setting.Socks rule) = within 4096 c.socks (record c { socks = c.socks ++ 
 set c (Setting.Route r) = within 256 c.routes (record c { routes = c.routes ++ r ∷ [] })
 set c Setting.NoEffect = Some c
 
-abbrev pub or_too_many : ℕ → Option Config → Result Config ConfFault
+abbrev pub or_too_many : ℕ → Option Entries → Result Entries ConfFault
 or_too_many line None = Err (record { line = line; kind = ConfKind.TooMany })
 or_too_many line (Some c) = Ok c
 
-abbrev pub with_setting : Config → ℕ → Result Setting ConfFault → Result Config ConfFault
+abbrev pub with_setting : Entries → ℕ → Result Setting ConfFault → Result Entries ConfFault
 with_setting c line (Err fault) = Err fault
 with_setting c line (Ok setting) = or_too_many line (set c setting)
 
-abbrev pub statement_onto : Config → Statement → Result Config ConfFault
+abbrev pub statement_onto : Entries → Statement → Result Entries ConfFault
 statement_onto c s = with_setting c s.line (setting_of s)
 
-abbrev pub statements_onto : Config → List Statement → Result Config ConfFault
+abbrev pub statements_onto : Entries → List Statement → Result Entries ConfFault
 statements_onto c [] = Ok c
 statements_onto c (s ∷ more) = elim (statement_onto c s) [ Ok d ↦ statements_onto d more | Err fault ↦ Err fault ]
 
 -- what stands where nothing is said
-abbrev pub default : Config
+abbrev pub default : Entries
 default = record {
   internals = [];
   externals = [];
@@ -134,14 +135,14 @@ default = record {
   routes = [];
 }
 
-abbrev pub listens : Config → List Endpoint → Result Config ConfFault
+abbrev pub listens : Entries → List Endpoint → Result Entries ConfFault
 listens c [] = Err (record { line = 0; kind = ConfKind.MissingInternal })
 listens c (e ∷ es) = Ok c
 
-abbrev pub whole : Result Config ConfFault → Result Config ConfFault
+abbrev pub whole : Result Entries ConfFault → Result Entries ConfFault
 whole (Err fault) = Err fault
 whole (Ok c) = listens c c.internals
 
 -- the statements one after the other; without an endpoint to listen on they are no configuration
-abbrev pub config_of : List Statement → Result Config ConfFault
+abbrev pub config_of : List Statement → Result Entries ConfFault
 config_of statements = whole (statements_onto default statements)

@@ -17,17 +17,14 @@ use Rattle.conf_model.specs.declared.given.Protocols.{Protocols}
 use Rattle.conf_model.specs.declared.given.Methods.{Methods}
 use Rattle.conf_model.specs.declared.given.Versions.{Versions}
 use Rattle.conf_model.specs.declared.given.Hop.{Hop}
-use Rattle.conf_model.specs.declared.protocol.Method.{Method}
-use Rattle.conf_model.specs.declared.route.Login.{Login}
-use Rattle.conf_model.specs.Equal.{method_eq}
+use Rattle.socks_grammar.specs.declared.protocol.Method.{Method}
+use Rattle.socks_grammar.specs.declared.login.Login.{Login}
+use Rattle.socks_grammar.specs.Equal.{method_eq}
+use Rattle.conf_types.specs.Kept.{is_name}
 
 abbrev pub readable : {A : Type 0} → Result A AddrFault → Option A
 readable (Ok a) = Some a
 readable (Err fault) = None
-
-abbrev pub is_readable : {A : Type 0} → Result A AddrFault → Bool
-is_readable (Ok a) = true
-is_readable (Err fault) = false
 
 -- the values as one text
 abbrev pub joined : List (List ℕ) → List ℕ
@@ -69,11 +66,6 @@ endpoint_of port (addr ∷ value ∷ values) = at_port (readable (addr_read addr
 abbrev pub is_interface : List (List ℕ) → Bool
 is_interface [] = false
 is_interface (value ∷ values) = list_any is_ascii_alphabetic value && not (list_any (λ b. b == 58) value)
-
--- 127.0.0.0/8, or ::1
-abbrev pub is_loopback : Addr → Bool
-is_loopback (Addr.V4 n) = n / 2 ^ 24 == 127
-is_loopback (Addr.V6 n) = n == 1
 
 -- ---- methods
 
@@ -168,9 +160,6 @@ abbrev pub versions_of : List (List ℕ) → Option Versions
 versions_of values = if are_all is_version values then Some (record { v4 = has (codes "socks_v4") values; v5 = has (codes "socks_v5") values }) else None
 
 -- ---- names, proxies and logins
-
-abbrev pub is_name : List ℕ → Bool
-is_name value = is_readable (name_of value)
 
 -- 1 to 64 names
 abbrev pub users_of : List (List ℕ) → Option (List (List ℕ))

@@ -3,11 +3,10 @@ ghost use Rattle.std.specs.Prelude.{◌≡◌};
 ghost use Rattle.conf_model.specs.Blocks.{all_commands, all_methods, all_protocols, all_versions, any as any_pattern, client_rule as client_rule_of, is_kept as is_kept_of, or_else, route as route_of, socks_rule as socks_rule_of, version_of, via_at};
 
 use crate::given::{Commands, Given, Hop, Methods, Protocols, Versions};
-use crate::protocol::Version;
-use crate::route::{Login, Route, Via};
-use crate::rule::{ClientRule, SocksRule};
 use addr_pattern::{HostPattern, Pattern, PortTest};
-use conf_text::List;
+use conf_types::{ClientRule, Route, SocksRule, Via};
+use lists::List;
+use socks_grammar::{Login, Version};
 use std::alloc::Global;
 
 fn or_any(pattern: Option<Pattern>) -> Pattern

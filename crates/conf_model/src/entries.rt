@@ -7,7 +7,8 @@ use crate::fault::{ConfFault, ConfKind};
 use crate::given::Given;
 use crate::keys::{BlockKind, EntryKey};
 use crate::values;
-use conf_text::{Entry, Text};
+use conf_text::Entry;
+use lists::Text;
 use std::alloc::Global;
 
 impl Given {

@@ -1,7 +1,7 @@
 //! What the entries of a block say.
-use crate::route::Login;
 use addr_pattern::{Endpoint, Name, Pattern};
-use conf_text::List;
+use lists::List;
+use socks_grammar::Login;
 
 /// The commands that a rule or a route names.
 #[derive(Clone, Copy)]

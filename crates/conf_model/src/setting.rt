@@ -1,8 +1,7 @@
-use crate::protocol::Method;
-use crate::route::Route;
-use crate::rule::{ClientRule, SocksRule};
 use addr_pattern::{Addr, Endpoint};
-use conf_text::List;
+use conf_types::{ClientRule, Route, SocksRule};
+use lists::List;
+use socks_grammar::Method;
 
 /// What one statement says.
 #[derive(Drop)]

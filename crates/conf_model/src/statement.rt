@@ -10,7 +10,8 @@ use crate::keys::{BlockKind, TopKey};
 use crate::setting::Setting;
 use crate::values;
 use addr_pattern::Endpoint;
-use conf_text::{Entry, Statement, Text};
+use conf_text::{Entry, Statement};
+use lists::Text;
 use std::alloc::Global;
 
 /// An endpoint to listen on, which has a port.

@@ -2,19 +2,20 @@
 ghost use Rattle.std.specs.Prelude.{◌≡◌, ◌≢◌, bytes_eq, fold, IfOk, IfErr, OnOk, true, [], ◌∷◌, Ok, Err};
 ghost use Rattle.std.specs.Char.{is_ascii_alphabetic};
 ghost use Rattle.std.specs.List.{list_all, list_any};
-ghost use Rattle.conf_model.specs.Equal.{method_eq};
-ghost use Rattle.conf_model.specs.Values.{address_of, are_all, at_port as at_port_of, client_methods_fault as client_methods_fault_of, commands_of, endpoint_of, has as has_of, hop_of, is_command as is_command_of, is_direct as is_direct_of, is_empty as is_empty_of, is_interface as is_interface_of, is_loopback as is_loopback_of, is_method as is_method_of, is_name as is_name_of, is_pam as is_pam_of, is_protocol as is_protocol_of, is_version as is_version_of, joined as joined_of, login_of, login_with as login_with_of, method_fault as method_fault_of, method_word as method_word_of, methods_of, number_of, pattern_of, protocols_of, readable, refusal_of, rule_methods_of, users_of, versions_of, with_method};
+ghost use Rattle.socks_grammar.specs.Equal.{method_eq};
+ghost use Rattle.conf_model.specs.Values.{address_of, are_all, at_port as at_port_of, client_methods_fault as client_methods_fault_of, commands_of, endpoint_of, has as has_of, hop_of, is_command as is_command_of, is_direct as is_direct_of, is_empty as is_empty_of, is_interface as is_interface_of, is_method as is_method_of, is_pam as is_pam_of, is_protocol as is_protocol_of, is_version as is_version_of, joined as joined_of, login_of, login_with as login_with_of, method_fault as method_fault_of, method_word as method_word_of, methods_of, number_of, pattern_of, protocols_of, readable, refusal_of, rule_methods_of, users_of, versions_of, with_method};
+ghost use Rattle.conf_types.specs.Kept.{is_loopback as is_loopback_of, is_name as is_name_of};
 ghost use Rattle.addr_pattern.specs.Reading.{addr_read};
 ghost use Rattle.addr_pattern.specs.Names.{name_of};
 
 use crate::fault::ConfKind;
 use crate::given::{Commands, Hop, Methods, Protocols, Versions};
-use crate::protocol::Method;
-use crate::route::Login;
 use addr_pattern::{
     Addr, Endpoint, Name, Pattern, cut_first, is_word, read_number, read_port_part,
 };
-use conf_text::{List, Text, joined};
+use conf_text::joined;
+use lists::{List, Text};
+use socks_grammar::{Login, Method};
 use std::alloc::{AllocError, Global};
 
 /// The values with one blank between each two.

@@ -3,15 +3,14 @@ ghost use Rattle.std.specs.Prelude.{◌≡◌, ◌++◌, ◌&&◌, [], ◌∷◌
 ghost use Rattle.std.specs.List.{flat_map};
 ghost use Rattle.conf_model.specs.Canonical.{canonical_text, client_lines, command_lines, command_words as command_words_of, control_lines, entry, external_line, inner, internal_line, listener, login_lines, max_lines, method_lines, method_word as method_word_of, method_words as method_words_of, pattern_lines, protocol_lines, route_lines, set_lines, setting_lines, socks_lines, user_lines, version_lines, version_word as version_word_of, via_lines, word_if};
 ghost use Rattle.conf_model.specs.Reads.{IsReadAgain};
+ghost use Rattle.conf_types.specs.Kept.{IsConfig};
 ghost use Rattle.conf_model.specs.Writing.{Adds};
 
-use crate::config::Config;
-use crate::protocol::{Method, Version};
-use crate::route::{Login, Route, Via};
-use crate::rule::{ClientRule, SocksRule};
 use crate::values::as_text;
 use addr_pattern::{Addr, Endpoint, Name, Pattern, write_number};
-use conf_text::{List, Text};
+use conf_types::{ClientRule, Config, Entries, Route, SocksRule, Via};
+use lists::{List, Text};
+use socks_grammar::{Login, Method, Version};
 use std::alloc::{AllocError, Global};
 
 // ---- lines
@@ -367,18 +366,18 @@ fn add_control(alloc: Global, text: &mut Text, control: Option<Endpoint>) -> Res
     }
 }
 
-fn add_settings(alloc: Global, text: &mut Text, config: &Config) -> Result<(), AllocError>
-    ensures { OnOk result (Adds text.old text.new (setting_lines config.now)) }
+fn add_settings(alloc: Global, text: &mut Text, entries: &Entries) -> Result<(), AllocError>
+    ensures { OnOk result (Adds text.old text.new (setting_lines entries.now)) }
 {
-    let words = method_words(alloc, config.methods.as_slice())?;
+    let words = method_words(alloc, entries.methods.as_slice())?;
     let methods = as_text(alloc, words.as_slice())?;
     add_entry(text, b"socksmethod", methods.as_slice())?;
     add_entry(
         text,
         b"timeout.negotiate",
-        write_number(config.negotiate).as_slice(),
+        write_number(entries.negotiate).as_slice(),
     )?;
-    add_entry(text, b"timeout.io", write_number(config.io).as_slice())?;
+    add_entry(text, b"timeout.io", write_number(entries.io).as_slice())?;
     Ok(())
 }
 
@@ -411,21 +410,27 @@ fn add_routes(alloc: Global, text: &mut Text, routes: &[Route]) -> Result<(), Al
     Ok(())
 }
 
-impl Config {
-    /// The canonical text: the entries at the top, the client rules, the socks rules and the routes, each in its order. An
-    /// `AllocError` comes where memory is refused.
-    pub fn write(&self, alloc: Global) -> Result<Text, AllocError>
-        ensures canonical { IfOk result (λ text. text ≡ canonical_text self.now) }
-        ensures read_again { OnOk result (IsReadAgain self.now) }
-    {
-        let mut text = Text::make(alloc);
-        add_internals(alloc, &mut text, self.internals.as_slice())?;
-        add_externals(&mut text, self.externals.as_slice())?;
-        add_control(alloc, &mut text, self.control)?;
-        add_settings(alloc, &mut text, self)?;
-        add_client_rules(&mut text, self.client.as_slice())?;
-        add_socks_rules(alloc, &mut text, self.socks.as_slice())?;
-        add_routes(alloc, &mut text, self.routes.as_slice())?;
-        Ok(text)
-    }
+/// The canonical text of a configuration: the entries at the top, the client rules, the socks rules and the routes, each in
+/// its order. An `AllocError` comes where memory is refused.
+pub fn write_config(alloc: Global, config: &Config) -> Result<Text, AllocError>
+    ensures canonical { IfOk result (λ text. text ≡ canonical_text config.now) }
+    ensures read_again { OnOk result (IsReadAgain config.now) }
+{
+    write_entries(alloc, config.entries())
+}
+
+fn write_entries(alloc: Global, entries: &Entries) -> Result<Text, AllocError>
+    requires { IsConfig entries.now }
+    ensures canonical { IfOk result (λ text. text ≡ canonical_text entries.now) }
+    ensures read_again { OnOk result (IsReadAgain entries.now) }
+{
+    let mut text = Text::make(alloc);
+    add_internals(alloc, &mut text, entries.internals.as_slice())?;
+    add_externals(&mut text, entries.externals.as_slice())?;
+    add_control(alloc, &mut text, entries.control)?;
+    add_settings(alloc, &mut text, entries)?;
+    add_client_rules(&mut text, entries.client.as_slice())?;
+    add_socks_rules(alloc, &mut text, entries.socks.as_slice())?;
+    add_routes(alloc, &mut text, entries.routes.as_slice())?;
+    Ok(text)
 }

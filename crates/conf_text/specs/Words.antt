@@ -19,8 +19,8 @@ abbrev pub is_brace : ℕ → Bool
 is_brace b = b == 123 || b == 125
 
 -- a letter, a digit, a dot or a dash
-abbrev pub is_name_byte : ℕ → Bool
-is_name_byte b = is_ascii_alphanumeric b || b == 46 || b == 45
+abbrev pub is_key_byte : ℕ → Bool
+is_key_byte b = is_ascii_alphanumeric b || b == 46 || b == 45
 
 -- a tab, a CR, or a byte from the blank to `~`
 abbrev pub is_readable : ℕ → Bool
@@ -49,7 +49,7 @@ pieces line = filter is_some_text (slice_split is_blank (spaced (said line)))
 -- a letter, and then letters, digits, dots and dashes
 abbrev pub is_name : List ℕ → Bool
 is_name [] = false
-is_name (b ∷ bs) = is_ascii_alphabetic b && list_all is_name_byte bs
+is_name (b ∷ bs) = is_ascii_alphabetic b && list_all is_key_byte bs
 
 -- a piece without its last byte
 abbrev pub name_of : List ℕ → List ℕ

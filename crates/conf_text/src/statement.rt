@@ -1,4 +1,4 @@
-use crate::list::{List, Text};
+use lists::{List, Text};
 
 /// A key of a block, and its values.
 #[derive(Debug, Drop)]

@@ -7,10 +7,10 @@ ghost use Rattle.conf_text.specs.Statements.{OnStatements, Values};
 
 use crate::cursor::Cursor;
 use crate::fault::TextFault;
-use crate::list::{List, Text};
 use crate::statement::{Entry, Statement};
 use crate::token::Token;
 use crate::words::{first_word, unreadable_line};
+use lists::{List, Text};
 use std::alloc::{AllocError, Global};
 
 /// The value that comes next, if it is of the line in reach, or of any line.

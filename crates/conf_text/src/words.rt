@@ -1,14 +1,14 @@
 ghost use Rattle.std.specs.Prelude.{◌≡◌, ◌∷◌, ◌+◌, ◌<◌, ◌≤◌, ◌^◌, ℕ, [], take, drop, false, true, length};
 ghost use Rattle.std.specs.List.{list_all};
-ghost use Rattle.conf_text.specs.Words.{words_from, unreadable_from, is_name, is_name_byte, is_readable, word_of};
+ghost use Rattle.conf_text.specs.Words.{words_from, unreadable_from, is_name, is_key_byte, is_readable, word_of};
 ghost use Rattle.conf_text.specs.Tokens.{left, seen, FirstOf, is_word_byte, has_word_byte, IsAtWord};
 
 use crate::cursor::Cursor;
 use crate::token::Token;
 
 /// A letter, a digit, a dot or a dash.
-fn is_name_byte(byte: u8) -> bool
-    ensures { result ≡ is_name_byte byte }
+fn is_key_byte(byte: u8) -> bool
+    ensures { result ≡ is_key_byte byte }
 {
     byte.is_ascii_alphanumeric() || byte == b'.' || byte == b'-'
 }
@@ -19,7 +19,7 @@ fn is_name(bytes: &[u8]) -> bool
 {
     match bytes.split_first() {
         Some((first, others)) => {
-            first.is_ascii_alphabetic() && others.iter().all(|b| is_name_byte(*b))
+            first.is_ascii_alphabetic() && others.iter().all(|b| is_key_byte(*b))
         }
         None => false,
     }

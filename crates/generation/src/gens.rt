@@ -1,5 +1,5 @@
 ghost use Rattle.std.specs.Prelude.{◌≡◌, ◌≤◌, ◌<◌, ℕ, List, Option};
-ghost use Rattle.conf_model.specs.declared.config.Config.{Config};
+ghost use Rattle.conf_types.specs.declared.entries.Entries.{Entries};
 ghost use Rattle.generation.specs.Published.{IsPublished, IsSnap};
 
 use crate::snap::Snap;
@@ -7,7 +7,7 @@ use crate::snap::Snap;
 /// What sees the published configurations. It keeps the one that it saw last, whatever is published meanwhile.
 pub trait Gens {
     /// The configurations that were published, in their order, where it tells.
-    ghost published: { Self → Option (List Config) };
+    ghost published: { Self → Option (List Entries) };
 
     /// The number that was seen last; 0 before the first.
     ghost seen: { Self → ℕ };

@@ -3,8 +3,8 @@ ghost use Rattle.generation.specs.Published.{IsPublished, IsSnap};
 
 use crate::gens::Gens;
 use crate::snap::Snap;
-use conf_model::Config;
-use conf_text::Memory;
+use conf_types::Config;
+use lists::Memory;
 use std::alloc::Global;
 use std::marker::Model;
 use std::sync::Arc;

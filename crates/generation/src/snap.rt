@@ -1,7 +1,7 @@
 ghost use Rattle.std.specs.Prelude.{◌≡◌, IfOk};
 
-use conf_model::Config;
-use conf_text::Memory;
+use conf_types::Config;
+use lists::Memory;
 use std::alloc::Global;
 use std::sync::Arc;
 

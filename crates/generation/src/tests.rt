@@ -1,16 +1,26 @@
+ghost use Rattle.std.specs.Prelude.{◌<◌};
+
 use super::*;
-use conf_model::Config;
+use addr_pattern::{Addr, Endpoint};
+use conf_types::Config;
 use std::alloc::Global;
 
-fn config_of(alloc: Global, text: &str) -> Option<Config> {
-    Config::read(alloc, text.as_bytes()).ok()
+/// A configuration that listens at this port.
+fn config_at(alloc: Global, port: u16) -> Option<Config>
+    requires { 0 < port }
+{
+    let at = Endpoint {
+        addr: Addr::V4(0x7F00_0001),
+        port,
+    };
+    Config::closed(alloc, at).ok()
 }
 
 /// Two are published: each has its number, the last is seen, and both can be looked up and shared.
 fn sees_the_last(alloc: Global) -> Option<bool> {
     let mut gens = ListGens::make(alloc);
-    let first = config_of(alloc, "internal: 127.0.0.1 port = 1080\n")?;
-    let second = config_of(alloc, "internal: 127.0.0.1 port = 1081\n")?;
+    let first = config_at(alloc, 1080)?;
+    let second = config_at(alloc, 1081)?;
     if gens.push(first).ok()? != 1 {
         return Some(false);
     }
@@ -35,7 +45,7 @@ fn sees_the_last(alloc: Global) -> Option<bool> {
 /// The port of the first endpoint that a configuration listens on.
 fn port_of(snap: &Snap) -> Option<u16> {
     let config: &Config = &snap.config;
-    Some(config.internals.get(0)?.port)
+    Some(config.entries().internals.get(0)?.port)
 }
 
 /// Sees over any `Gens`, and answers the number of what it then holds.
@@ -57,10 +67,7 @@ fn two_are_published(rt: HostRuntime) {
 #[test]
 fn one_is_seen_over_any_gens(rt: HostRuntime) {
     let mut gens = ListGens::make(rt.alloc());
-    let config = config_of(rt.alloc(), "internal: ::1 port = 1080\n").expect(
-        &rt,
-        "a configuration",
-    );
+    let config = config_at(rt.alloc(), 1080).expect(&rt, "memory");
     let number = gens.push(config).ok().expect(&rt, "memory");
     assert!(rt; number == 1);
     assert!(rt; number_seen(&mut gens) == Some(1));

@@ -3,13 +3,10 @@ ghost use Rattle.half_close_relay.specs.Ways.{seen};
 
 use crate::halt::Halt;
 use crate::sending::{Sent, drop_front, send_all};
-use conf_text::Memory;
-use net_ends::{Link, Reading, Shutting};
+use lists::Memory;
+use net_ends::{Link, PIECE, Reading, Shutting};
 use std::alloc::Global;
 use std::marker::Model;
-
-/// How many bytes one read asks for at most.
-pub const PIECE: usize = 16384;
 
 /// One direction of a relay, from the link that gives, its source, to the link that takes, its sink.
 #[derive(Drop)]

@@ -5,7 +5,7 @@ ghost use Rattle.half_close_relay.specs.Ways.{seen};
 use crate::direction::Direction;
 use crate::per_side::PerSide;
 use crate::pumped::{Pumped, Side};
-use conf_text::Memory;
+use lists::Memory;
 use net_ends::Link;
 use std::alloc::Global;
 use std::marker::Model;

@@ -1,5 +1,5 @@
 use super::*;
-use conf_text::Memory;
+use lists::Memory;
 use net_ends::MemLink;
 use std::alloc::Global;
 use std::test::*;
@@ -164,89 +164,6 @@ fn pumps_by_rooms_and_ends(rt: HostRuntime) -> Result<(), Fail> {
         let right = pumps_so(rt.alloc(), case).ok().ok_or("memory")?;
         assert!(rt; right, "case {number}");
     }
-    Ok(())
-}
-
-/// Pumps until the relay is through, and makes room for a byte more before each call. Whether this side failed on the way.
-fn pump_through(
-    relay: &mut Relay,
-    client: &mut MemLink,
-    target: &mut MemLink,
-    fails: Side,
-) -> Option<bool> {
-    let mut failed = false;
-    for _ in 0..20 {
-        match relay.pump(client, target, 0) {
-            Pumped::Ended => return Some(failed),
-            Pumped::Fault(side) => {
-                if side != fails {
-                    return None;
-                }
-                failed = true;
-            }
-            Pumped::Memory => return None,
-            Pumped::Idle | Pumped::Moved => {}
-        }
-        client.spare(1).ok()?;
-        target.spare(1).ok()?;
-    }
-    None
-}
-
-/// Whether each side took all that the other gave, where the call of this number of this side failed.
-fn all_is_relayed(alloc: Global, fails: Side, number: u64) -> Option<bool> {
-    let mut client = link(alloc, b"hello", true, 1).ok()?;
-    let mut target = link(alloc, b"world!", true, 2).ok()?;
-    match fails {
-        Side::Client => client.fail_at(number).ok()?,
-        Side::Target => target.fail_at(number).ok()?,
-    }
-    let mut relay = Relay::make(alloc).ok()?;
-    relay.hold(b"Oh, ").ok()?;
-    let failed = pump_through(&mut relay, &mut client, &mut target, fails)?;
-    let whole = client.taken() == b"world!".as_slice() && target.taken() == b"Oh, hello".as_slice();
-    Some(failed && whole && client.was_shut() && target.was_shut())
-}
-
-#[test]
-fn no_byte_is_lost_at_a_failed_call(rt: HostRuntime) -> Result<(), Fail> {
-    for number in 1..9 {
-        let client = all_is_relayed(rt.alloc(), Side::Client, number);
-        assert_eq!(rt; client, Some(true));
-        let target = all_is_relayed(rt.alloc(), Side::Target, number);
-        assert_eq!(rt; target, Some(true));
-    }
-    Ok(())
-}
-
-#[test]
-fn a_turn_takes_a_quantum(rt: HostRuntime) -> Result<(), Fail> {
-    let bytes = vec![in rt.alloc(); 7u8; 65537]?;
-    let mut client = link(rt.alloc(), bytes.as_slice(), true, 0)
-        .ok()
-        .ok_or("memory")?;
-    let mut target = link(rt.alloc(), b"", true, 65537).ok().ok_or("memory")?;
-    let mut relay = Relay::make(rt.alloc()).ok().ok_or("memory")?;
-    assert_eq!(rt; relay.pump(&mut client, &mut target, 0), Pumped::Moved);
-    assert_eq!(rt; target.taken().len(), 65536);
-    assert_eq!(rt; relay.pump(&mut client, &mut target, 0), Pumped::Ended);
-    assert!(rt; target.taken() == bytes.as_slice());
-    Ok(())
-}
-
-#[test]
-fn a_flush_reads_nothing(rt: HostRuntime) -> Result<(), Fail> {
-    let mut client = link(rt.alloc(), b"hello", true, 9).ok().ok_or("memory")?;
-    let mut target = link(rt.alloc(), b"world!", true, 1).ok().ok_or("memory")?;
-    let mut relay = Relay::make(rt.alloc()).ok().ok_or("memory")?;
-    assert_eq!(rt; relay.spare(), usize::MAX);
-    relay.hold(b"Oh").ok().ok_or("memory")?;
-    assert!(rt; relay.waits() == (false, true));
-    assert_eq!(rt; relay.flush(&mut client, &mut target), Pumped::Idle);
-    assert_eq!(rt; target.taken(), b"O".as_slice());
-    assert_eq!(rt; client.taken(), b"".as_slice());
-    let (took, sent) = relay.totals();
-    assert!(rt; took == (0, 0) && sent == (0, 1));
     Ok(())
 }
 

@@ -1,7 +1,7 @@
 ghost use Rattle.std.specs.Prelude.{◌≡◌, ◌==◌, false, true, length, OnOk, OnErr};
 ghost use Rattle.net_ends.specs.Failing.{none_failing, with_failure, after_call, is_to_fail};
 
-use conf_text::{List, Memory};
+use lists::{List, Memory};
 use std::alloc::Global;
 use std::marker::Model;
 

@@ -20,7 +20,7 @@ mod wire;
 
 pub use caller::{Caller, Calling};
 pub use kinds::{Kind, Kinds};
-pub use link::{Link, Reading, Shutting, Writing};
+pub use link::{Link, PIECE, Reading, Shutting, Writing};
 pub use memory_caller::{CallPlan, MemCaller};
 pub use memory_link::MemLink;
 pub use memory_net::{DialPlan, MemNet};

@@ -3,6 +3,9 @@ ghost use Rattle.net_ends.specs.Told.{Told, after_read, after_write, after_shut,
 ghost use Rattle.net_ends.specs.Counts.{Counts, Later, ReadCause, WriteCause, ShutCause};
 ghost use Rattle.net_ends.specs.Faults.{ReadTried, WriteTried, ShutTried};
 
+/// The most bytes that one read of a link asks for, and that wait in one direction of a relay.
+pub const PIECE: usize = 16384;
+
 /// What a read came to.
 #[derive(Clone, Copy, Debug, PartialEq, Eq)]
 pub enum Reading {

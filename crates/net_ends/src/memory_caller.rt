@@ -3,7 +3,7 @@ ghost use Rattle.std.specs.Prelude.{◌≡◌, IfOk, option_copied};
 use crate::caller::{Caller, Calling};
 use crate::memory_wire::MemWire;
 use addr_pattern::Endpoint;
-use conf_text::Memory;
+use lists::Memory;
 use std::alloc::Global;
 use std::marker::Model;
 use std::mem;

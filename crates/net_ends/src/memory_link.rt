@@ -4,7 +4,7 @@ use crate::failing::FailingCalls;
 use crate::kinds::{Kind, Kinds};
 use crate::link::{Link, Reading, Shutting, Writing};
 use crate::pieces::{copy_front, rest_of};
-use conf_text::{Memory, Text};
+use lists::{Memory, Text};
 use std::alloc::Global;
 use std::marker::Model;
 

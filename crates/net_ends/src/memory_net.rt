@@ -4,7 +4,7 @@ use crate::kinds::Kind;
 use crate::memory_link::MemLink;
 use crate::net::{Dialing, Lookup, Net};
 use addr_pattern::{Endpoint, Name};
-use conf_text::Memory;
+use lists::Memory;
 use std::alloc::Global;
 use std::marker::Model;
 use std::mem;

@@ -2,7 +2,7 @@ ghost use Rattle.std.specs.Prelude.{◌≡◌, IfOk, OnOk, OnErr};
 
 use crate::failing::FailingCalls;
 use crate::stream::{Giving, Sink};
-use conf_text::Memory;
+use lists::Memory;
 use std::alloc::Global;
 use std::marker::Model;
 

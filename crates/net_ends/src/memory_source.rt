@@ -3,7 +3,7 @@ ghost use Rattle.std.specs.Prelude.{◌≡◌, ◌++◌, IfOk, OnOk, OnErr};
 use crate::failing::FailingCalls;
 use crate::pieces::{copy_front, rest_of};
 use crate::stream::{Source, Taking};
-use conf_text::{Memory, Text};
+use lists::{Memory, Text};
 use std::alloc::Global;
 use std::marker::Model;
 

@@ -4,7 +4,7 @@ ghost use Rattle.net_ends.specs.InMemory.{is_named};
 use crate::failing::FailingCalls;
 use crate::pieces::front_of;
 use crate::store::{Store, Stored};
-use conf_text::{List, Memory, Text};
+use lists::{List, Memory, Text};
 use std::alloc::Global;
 use std::marker::Model;
 

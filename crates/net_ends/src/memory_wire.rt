@@ -4,7 +4,7 @@ use crate::link::{Link, Reading, Shutting, Writing};
 use crate::memory_link::MemLink;
 use crate::stream::{Giving, Taking};
 use crate::wire::Wire;
-use conf_text::Memory;
+use lists::Memory;
 use std::alloc::Global;
 use std::marker::Model;
 

@@ -1,7 +1,7 @@
 ghost use Rattle.std.specs.Prelude.{◌≡◌, ◌≤◌, ℕ, Option};
 ghost use Rattle.net_ends.specs.Stores.{Files, MayReadFile, StoredCause};
 
-use conf_text::Text;
+use lists::Text;
 use std::alloc::Global;
 
 /// What reading a file came to.

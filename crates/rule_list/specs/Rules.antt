@@ -4,18 +4,18 @@ use Rattle.std.specs.List.{list_any}
 use Rattle.addr_pattern.specs.declared.addr.Addr.{Addr}
 use Rattle.addr_pattern.specs.declared.endpoint.Endpoint.{Endpoint}
 use Rattle.addr_pattern.specs.declared.pattern.Pattern.{Pattern}
-use Rattle.conf_model.specs.declared.protocol.Method.{Method}
-use Rattle.conf_model.specs.declared.protocol.Version.{Version}
-use Rattle.conf_model.specs.declared.protocol.Command.{Command}
-use Rattle.conf_model.specs.declared.rule.ClientRule.{ClientRule}
-use Rattle.conf_model.specs.declared.rule.SocksRule.{SocksRule}
-use Rattle.conf_model.specs.declared.route.Via.{Via}
-use Rattle.conf_model.specs.declared.route.Route.{Route}
-use Rattle.conf_model.specs.declared.config.Config.{Config}
+use Rattle.socks_grammar.specs.declared.protocol.Method.{Method}
+use Rattle.socks_grammar.specs.declared.protocol.Version.{Version}
+use Rattle.socks_grammar.specs.declared.protocol.Command.{Command}
+use Rattle.conf_types.specs.declared.rule.ClientRule.{ClientRule}
+use Rattle.conf_types.specs.declared.rule.SocksRule.{SocksRule}
+use Rattle.conf_types.specs.declared.route.Via.{Via}
+use Rattle.conf_types.specs.declared.route.Route.{Route}
+use Rattle.conf_types.specs.declared.entries.Entries.{Entries}
 use Rattle.rule_list.specs.declared.facts.Facts.{Facts}
 use Rattle.rule_list.specs.declared.verdict.Verdict.{Verdict}
 use Rattle.addr_pattern.specs.Matches.{matches}
-use Rattle.conf_model.specs.Equal.{method_eq}
+use Rattle.socks_grammar.specs.Equal.{method_eq}
 
 -- the pattern takes the endpoint, reached under this name if any
 abbrev pub takes : Pattern → Option (List ℕ) → Endpoint → Bool
@@ -67,10 +67,10 @@ socks_rule_matches f r =
     takes r.from None f.from && takes r.to f.name f.to && allows_command r f.command && allows_protocol r f.command
     && allows_method r f.method && allows_version r f.version && allows_user r.users f.user
 
-abbrev pub first_client : Config → Endpoint → Endpoint → Option ℕ
+abbrev pub first_client : Entries → Endpoint → Endpoint → Option ℕ
 first_client k peer local = first (client_rule_matches peer local) k.client
 
-abbrev pub first_socks : Config → Facts → Option ℕ
+abbrev pub first_socks : Entries → Facts → Option ℕ
 first_socks k f = first (socks_rule_matches f) k.socks
 
 -- whether a rule of this number passes; one that isn't there doesn't
@@ -82,25 +82,25 @@ abbrev pub socks_passes : Option SocksRule → Bool
 socks_passes None = false
 socks_passes (Some r) = r.pass
 
-abbrev pub client_rule_passes : Config → Option ℕ → Bool
+abbrev pub client_rule_passes : Entries → Option ℕ → Bool
 client_rule_passes k None = false
 client_rule_passes k (Some n) = client_passes (numbered k.client n)
 
-abbrev pub judge_socks : Config → ℕ → Option ℕ → Verdict
+abbrev pub judge_socks : Entries → ℕ → Option ℕ → Verdict
 judge_socks k c None = Verdict.SocksNone c
 judge_socks k c (Some s) = if socks_passes (numbered k.socks s) then Verdict.Pass c s else Verdict.SocksBlock c s
 
-abbrev pub judge_after_client : Config → Facts → ℕ → Verdict
+abbrev pub judge_after_client : Entries → Facts → ℕ → Verdict
 judge_after_client k f c =
     if list_any (method_eq f.method) k.methods then judge_socks k c (first_socks k f) else Verdict.SocksNone c
 
-abbrev pub judge_with_client : Config → Facts → Option ℕ → Verdict
+abbrev pub judge_with_client : Entries → Facts → Option ℕ → Verdict
 judge_with_client k f None = Verdict.ClientNone
 judge_with_client k f (Some c) =
     if client_passes (numbered k.client c) then judge_after_client k f c else Verdict.ClientBlock c
 
 -- what both lists say of these facts
-abbrev pub judge : Config → Facts → Verdict
+abbrev pub judge : Entries → Facts → Verdict
 judge k f = judge_with_client k f (first_client k f.peer f.local)
 
 abbrev pub is_pass : Verdict → Bool
@@ -116,7 +116,7 @@ abbrev pub route_matches : Facts → Route → Bool
 route_matches f r = takes r.from None f.from && takes r.to f.name f.to && can_name r.via f.to.addr
 
 -- the number of the first route that matches, where the command is Connect
-abbrev pub route_of : Config → Facts → Option ℕ
+abbrev pub route_of : Entries → Facts → Option ℕ
 route_of k f = route_for f.command
   where
     route_for : Command → Option ℕ
@@ -128,14 +128,14 @@ abbrev pub via_of_route : Option Route → Via
 via_of_route None = Via.Direct
 via_of_route (Some r) = r.via
 
-abbrev pub via_of : Config → Option ℕ → Via
+abbrev pub via_of : Entries → Option ℕ → Via
 via_of k None = Via.Direct
 via_of k (Some n) = via_of_route (numbered k.routes n)
 
-abbrev pub client_max : Config → Option ℕ → Option ℕ
+abbrev pub client_max : Entries → Option ℕ → Option ℕ
 client_max k None = None
 client_max k (Some n) = option_and_then (λ r. r.max) (numbered k.client n)
 
-abbrev pub socks_max : Config → Option ℕ → Option ℕ
+abbrev pub socks_max : Entries → Option ℕ → Option ℕ
 socks_max k None = None
 socks_max k (Some n) = option_and_then (λ r. r.max) (numbered k.socks n)

@@ -1,5 +1,5 @@
 use addr_pattern::{Endpoint, Name};
-use conf_model::{Command, Method, Version};
+use socks_grammar::{Command, Method, Version};
 
 /// What the rules are asked about.
 #[derive(Drop)]

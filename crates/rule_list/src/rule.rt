@@ -1,12 +1,13 @@
 ghost use Rattle.std.specs.Prelude.{◌≡◌, bytes_eq};
 ghost use Rattle.std.specs.Option.{option_copied};
 ghost use Rattle.std.specs.List.{list_any};
-ghost use Rattle.conf_model.specs.Equal.{method_eq};
+ghost use Rattle.socks_grammar.specs.Equal.{method_eq};
 ghost use Rattle.rule_list.specs.Rules.{takes as takes_of, client_rule_matches, socks_rule_matches, route_matches, can_name as can_name_of, allows_command as allows_command_of, allows_protocol as allows_protocol_of, allows_method as allows_method_of, allows_version as allows_version_of, allows_user as allows_user_of};
 
 use crate::facts::Facts;
 use addr_pattern::{Addr, Endpoint, Name, Pattern};
-use conf_model::{ClientRule, Command, Method, Route, SocksRule, Version, Via};
+use conf_types::{ClientRule, Route, SocksRule, Via};
+use socks_grammar::{Command, Method, Version};
 
 fn takes(pattern: &Pattern, name: Option<&Name>, at: &Endpoint) -> bool
     ensures { result ≡ takes_of pattern.now (option_copied name.entry) at.now }

@@ -1,14 +1,14 @@
 ghost use Rattle.std.specs.Prelude.{◌≡◌, ◌+◌, ◌<◌, ◌^◌, length, position, option_map, IfSome};
 ghost use Rattle.std.specs.Option.{option_copied};
-ghost use Rattle.rule_list.specs.Numbers.{FitsNumbers};
 ghost use Rattle.rule_list.specs.Rules.{numbered as numbered_of, first_client as first_client_of, first_socks as first_socks_of, judge as judge_of, judge_socks as judge_socks_of, judge_after_client as judge_after_client_of, route_of, client_rule_passes, socks_passes as socks_passes_of, client_max as client_max_of, socks_max as socks_max_of, client_rule_matches, socks_rule_matches, route_matches};
 
 use crate::facts::Facts;
 use crate::rule::{lists_method, matches_client, matches_route, matches_socks};
 use crate::verdict::Verdict;
 use addr_pattern::Endpoint;
-use conf_model::{ClientRule, Command, Config, Route, SocksRule};
-use conf_text::List;
+use conf_types::{ClientRule, Config, Route, SocksRule};
+use lists::List;
+use socks_grammar::Command;
 
 /// The element of this number, from 1.
 fn numbered<T>(items: &List<T>, number: u32) -> Option<&T>
@@ -42,10 +42,9 @@ fn place_of_client(rules: &[ClientRule], peer: &Endpoint, local: &Endpoint) -> O
 
 /// The number of the first client rule that takes the peer and the address at which it came.
 pub fn first_client(config: &Config, peer: &Endpoint, local: &Endpoint) -> Option<u32>
-    requires { FitsNumbers config.now }
     ensures { result ≡ first_client_of config.now peer.now local.now }
 {
-    number_of(place_of_client(config.client.as_slice(), peer, local))
+    number_of(place_of_client(config.entries().client.as_slice(), peer, local))
 }
 
 fn place_of_socks(rules: &[SocksRule], facts: &Facts) -> Option<usize>
@@ -57,10 +56,9 @@ fn place_of_socks(rules: &[SocksRule], facts: &Facts) -> Option<usize>
 
 /// The number of the first socks rule that matches the facts.
 pub fn first_socks(config: &Config, facts: &Facts) -> Option<u32>
-    requires { FitsNumbers config.now }
     ensures { result ≡ first_socks_of config.now facts.now }
 {
-    number_of(place_of_socks(config.socks.as_slice(), facts))
+    number_of(place_of_socks(config.entries().socks.as_slice(), facts))
 }
 
 fn place_of_route(routes: &[Route], facts: &Facts) -> Option<usize>
@@ -72,11 +70,12 @@ fn place_of_route(routes: &[Route], facts: &Facts) -> Option<usize>
 
 /// The number of the first route that matches the facts; none where the command isn't Connect.
 pub fn first_route(config: &Config, facts: &Facts) -> Option<u32>
-    requires { FitsNumbers config.now }
     ensures { result ≡ route_of config.now facts.now }
 {
     match facts.command {
-        Command::Connect => { number_of(place_of_route(config.routes.as_slice(), facts)) },
+        Command::Connect => {
+            number_of(place_of_route(config.entries().routes.as_slice(), facts))
+        },
         _ => None,
     }
 }
@@ -88,7 +87,7 @@ pub fn client_passes(config: &Config, rule: Option<u32>) -> bool
     let Some(number) = rule else {
         return false;
     };
-    match numbered(&config.client, number) {
+    match numbered(&config.entries().client, number) {
         None => false,
         Some(rule) => rule.pass,
     }
@@ -99,7 +98,7 @@ pub fn client_max(config: &Config, rule: Option<u32>) -> Option<u32>
     ensures { result ≡ client_max_of config.now rule }
 {
     let number = rule?;
-    let rule = numbered(&config.client, number)?;
+    let rule = numbered(&config.entries().client, number)?;
     rule.max
 }
 
@@ -108,14 +107,14 @@ pub fn socks_max(config: &Config, rule: Option<u32>) -> Option<u32>
     ensures { result ≡ socks_max_of config.now rule }
 {
     let number = rule?;
-    let rule = numbered(&config.socks, number)?;
+    let rule = numbered(&config.entries().socks, number)?;
     rule.max
 }
 
 fn socks_passes(config: &Config, number: u32) -> bool
     ensures { result ≡ socks_passes_of (numbered_of config.now.socks number) }
 {
-    match numbered(&config.socks, number) {
+    match numbered(&config.entries().socks, number) {
         None => false,
         Some(rule) => rule.pass,
     }
@@ -137,10 +136,9 @@ fn judge_socks(config: &Config, client: u32, rule: Option<u32>) -> Verdict
 }
 
 fn judge_after_client(config: &Config, facts: &Facts, client: u32) -> Verdict
-    requires { FitsNumbers config.now }
     ensures { result ≡ judge_after_client_of config.now facts.now client }
 {
-    if lists_method(config.methods.as_slice(), facts.method) {
+    if lists_method(config.entries().methods.as_slice(), facts.method) {
         judge_socks(config, client, first_socks(config, facts))
     } else {
         Verdict::SocksNone { client }
@@ -149,7 +147,6 @@ fn judge_after_client(config: &Config, facts: &Facts, client: u32) -> Verdict
 
 /// What both lists say of these facts. A method that the configuration doesn't list matches no socks rule.
 pub fn judge(config: &Config, facts: &Facts) -> Verdict
-    requires { FitsNumbers config.now }
     ensures { result ≡ judge_of config.now facts.now }
 {
     let Some(client) = first_client(config, &facts.peer, &facts.local) else {

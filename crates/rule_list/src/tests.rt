@@ -1,316 +1,44 @@
+ghost use Rattle.std.specs.Prelude.{◌<◌};
+ghost use Rattle.conf_types.specs.Kept.{IsListener};
+
 use super::*;
-use addr_pattern::{Addr, Endpoint, Name};
-use conf_model::{Command, Config, Method, Version};
-use std::alloc::Global;
+use addr_pattern::{Addr, Endpoint};
+use conf_types::Config;
+use socks_grammar::{Command, Method, Version};
 use std::test::*;
 
-/// What is asked for; a user or a name of no bytes is none.
-#[derive(Clone, Copy)]
-struct Asked {
-    command: Command,
-    version: Version,
-    method: Method,
-    user: &'static str,
-    to: &'static str,
-    name: &'static str,
-}
-
-/// A CONNECT of SOCKS 5 without a login.
-const USUAL: Asked = Asked {
-    command: Command::Connect,
-    version: Version::V5,
-    method: Method::NoAuth,
-    user: "",
-    to: "198.51.100.10:80",
-    name: "",
-};
-
-fn endpoint(text: &str) -> Option<Endpoint> {
-    Endpoint::read(text.as_bytes()).ok()
-}
-
-fn name(text: &str) -> Option<Name> {
-    Name::read(text.as_bytes()).ok()
-}
-
-/// The facts of a client at 10.0.0.5:5000, which came at 127.0.0.1:1080.
-fn facts_of(asked: &Asked) -> Option<Facts> {
-    Some(Facts {
-        peer: endpoint("10.0.0.5:5000")?,
-        local: endpoint("127.0.0.1:1080")?,
-        command: asked.command,
-        version: asked.version,
-        method: asked.method,
-        user: name(asked.user),
-        from: endpoint("10.0.0.5:5000")?,
-        to: endpoint(asked.to)?,
-        name: name(asked.name),
-    })
-}
-
-/// The verdict of these rules, behind an endpoint to listen on and both methods.
-fn verdict(alloc: Global, rules: &str, asked: &Asked) -> Option<Verdict> {
-    let mut text = String::new(alloc);
-    text.push_str("internal: 127.0.0.1\nsocksmethod: none username\n")
-        .ok()?;
-    text.push_str(rules).ok()?;
-    let config = Config::read(alloc, text.as_bytes()).ok()?;
-    let facts = facts_of(asked)?;
-    Some(judge(&config, &facts))
-}
-
-/// One entry of the only socks rule, what is asked for, and whether the rule takes it.
-const ENTRIES: &[(&str, Asked, bool)] = &[
-    ("", USUAL, true),
-    ("command: connect bind", USUAL, true),
-    (
-        "command: bind udpassociate bindreply udpreply",
-        USUAL,
-        false,
-    ),
-    (
-        "command: bind",
-        Asked {
-            command: Command::Bind,
-            ..USUAL
-        },
-        true,
-    ),
-    ("protocol: tcp", USUAL, true),
-    ("protocol: udp", USUAL, false),
-    (
-        "protocol: udp",
-        Asked {
-            command: Command::UdpReply,
-            ..USUAL
-        },
-        true,
-    ),
-    ("socksmethod: none", USUAL, true),
-    ("socksmethod: username", USUAL, false),
-    (
-        "socksmethod: username",
-        Asked {
-            method: Method::Username,
-            user: "amy",
-            ..USUAL
-        },
-        true,
-    ),
-    ("proxyprotocol: socks_v5", USUAL, true),
-    ("proxyprotocol: socks_v4", USUAL, false),
-    (
-        "proxyprotocol: socks_v4",
-        Asked {
-            version: Version::V4,
-            ..USUAL
-        },
-        true,
-    ),
-    (
-        "user: bob amy",
-        Asked {
-            method: Method::Username,
-            user: "amy",
-            ..USUAL
-        },
-        true,
-    ),
-    (
-        "user: bob",
-        Asked {
-            method: Method::Username,
-            user: "amy",
-            ..USUAL
-        },
-        false,
-    ),
-    (
-        "user: Amy",
-        Asked {
-            method: Method::Username,
-            user: "amy",
-            ..USUAL
-        },
-        false,
-    ),
-    ("user: amy", USUAL, false),
-    ("from: 10.0.0.0/24", USUAL, true),
-    ("from: 10.0.1.0/24", USUAL, false),
-    ("from: 0/0 port = 5000", USUAL, true),
-    ("from: 0/0 port = 80", USUAL, false),
-    ("to: 198.51.100.0/24", USUAL, true),
-    ("to: 192.0.2.0/24", USUAL, false),
-    ("to: 0/0 port = 80", USUAL, true),
-    ("to: 0/0 port = 5000", USUAL, false),
-    (
-        "to: .example.com",
-        Asked {
-            name: "www.EXAMPLE.com.",
-            ..USUAL
-        },
-        true,
-    ),
-    (
-        "to: .example.com",
-        Asked {
-            name: "badexample.com",
-            ..USUAL
-        },
-        false,
-    ),
-    ("to: .example.com", USUAL, false),
-    (
-        "to: 198.51.100.0/24",
-        Asked {
-            name: "www.example.com",
-            ..USUAL
-        },
-        true,
-    ),
-];
-
-/// Each entry of a rule decides, for and against.
-#[test]
-fn each_entry(rt: HostRuntime) -> Result<(), Fail> {
-    for (entry, asked, takes) in ENTRIES {
-        let mut rules = String::new(rt.alloc());
-        write!(&mut rules, "client pass {{ }}\nsocks pass {{ {entry} }}\n")?;
-        let answer = if *takes {
-            Verdict::Pass {
-                client: 1,
-                socks: 1,
-            }
-        } else {
-            Verdict::SocksNone { client: 1 }
-        };
-        assert_eq!(rt;
-            verdict(rt.alloc(), rules.as_str(), asked),
-            Some(answer),
-            "at {entry}"
-        );
+/// A port of 127.0.0.1.
+fn at(port: u16) -> Endpoint
+    requires { 0 < port }
+    ensures { IsListener result }
+{
+    Endpoint {
+        addr: Addr::V4(0x7F00_0001),
+        port,
     }
+}
+
+/// A configuration without rules lets nobody in.
+#[test]
+fn no_rules(rt: HostRuntime) -> Result<(), Fail> {
+    let config = Config::closed(rt.alloc(), at(1080))?;
+    let facts = Facts {
+        peer: at(5000),
+        local: at(1080),
+        command: Command::Connect,
+        version: Version::V5,
+        method: Method::NoAuth,
+        user: None,
+        from: at(5000),
+        to: at(80),
+        name: None,
+    };
+    assert_eq!(rt; judge(&config, &facts), Verdict::ClientNone);
+    assert_eq!(rt; first_client(&config, &at(5000), &at(1080)), None);
+    assert_eq!(rt; first_socks(&config, &facts), None);
+    assert_eq!(rt; first_route(&config, &facts), None);
+    assert!(rt; !client_passes(&config, Some(1)));
+    assert_eq!(rt; client_max(&config, Some(1)), None);
+    assert_eq!(rt; socks_max(&config, Some(1)), None);
     Ok(())
-}
-
-/// The first rule that takes it decides.
-#[test]
-fn order_of_rules(rt: HostRuntime) {
-    for (rules, answer) in [
-        ("", Verdict::ClientNone),
-        (
-            "client block { }\nclient pass { }\nsocks pass { }",
-            Verdict::ClientBlock { client: 1 },
-        ),
-        (
-            "client pass { from: 10.0.1.0/24 }\nsocks pass { }",
-            Verdict::ClientNone,
-        ),
-        (
-            "client pass { to: 0/0 port = 1081 }\nsocks pass { }",
-            Verdict::ClientNone,
-        ),
-        ("client pass { }", Verdict::SocksNone { client: 1 }),
-        (
-            "client pass { }\npass { }\nblock { }",
-            Verdict::Pass {
-                client: 1,
-                socks: 1,
-            },
-        ),
-        (
-            "client pass { }\nblock { }\npass { }",
-            Verdict::SocksBlock {
-                client: 1,
-                socks: 1,
-            },
-        ),
-        (
-            "client pass { from: ::/0 }\nclient pass { }\nblock { to: 0/0 port = 81 }\npass { }",
-            Verdict::Pass {
-                client: 2,
-                socks: 2,
-            },
-        ),
-        (
-            "socksmethod: username\nclient pass { }\nsocks pass { }",
-            Verdict::SocksNone { client: 1 },
-        ),
-    ] {
-        assert_eq!(rt;
-            verdict(rt.alloc(), rules, &USUAL),
-            Some(answer),
-            "at {rules}"
-        );
-    }
-}
-
-/// A rule at this place of 4,096, where all others pass another port.
-fn rule_at(alloc: Global, place: usize) -> Option<Verdict> {
-    let mut rules = String::new(alloc);
-    rules.push_str("client pass { }\n").ok()?;
-    for at in 1..4097 {
-        let port = if at == place { "80" } else { "81" };
-        rules.push_str("pass { to: 0/0 port = ").ok()?;
-        rules.push_str(port).ok()?;
-        rules.push_str(" }\n").ok()?;
-    }
-    verdict(alloc, rules.as_str(), &USUAL)
-}
-
-#[test]
-fn many_rules(rt: HostRuntime) {
-    assert_eq!(rt;
-        rule_at(rt.alloc(), 1),
-        Some(Verdict::Pass {
-            client: 1,
-            socks: 1
-        })
-    );
-    assert_eq!(rt;
-        rule_at(rt.alloc(), 4096),
-        Some(Verdict::Pass {
-            client: 1,
-            socks: 4096
-        })
-    );
-    assert_eq!(rt;
-        rule_at(rt.alloc(), 0),
-        Some(Verdict::SocksNone { client: 1 })
-    );
-}
-
-/// The route of these routes for a destination.
-fn route(alloc: Global, routes: &str, asked: &Asked) -> Option<Option<u32>> {
-    let mut text = String::new(alloc);
-    text.push_str("internal: 127.0.0.1\n").ok()?;
-    text.push_str(routes).ok()?;
-    let config = Config::read(alloc, text.as_bytes()).ok()?;
-    let facts = facts_of(asked)?;
-    Some(first_route(&config, &facts))
-}
-
-/// A proxy of SOCKS 4 can't be asked for IPv6, and routes serve CONNECT alone.
-#[test]
-fn routes(rt: HostRuntime) {
-    let four = "route { via: 192.0.2.1 proxyprotocol: socks_v4 }";
-    let near = "route { to: 192.0.2.0/24 via: direct }\nroute { via: 192.0.2.1 }";
-    let six = Asked {
-        to: "[2001:db8::1]:80",
-        ..USUAL
-    };
-    let bind = Asked {
-        command: Command::Bind,
-        ..USUAL
-    };
-    for (text, asked, answer) in [
-        (four, USUAL, Some(1)),
-        (four, six, None),
-        (near, USUAL, Some(2)),
-        (near, six, Some(2)),
-        (near, bind, None),
-        ("", USUAL, None),
-    ] {
-        assert_eq!(rt; route(rt.alloc(), text, &asked), Some(answer), "at {text}");
-    }
 }

@@ -5,7 +5,8 @@ use Rattle.std.proofs.lemmas.Bool.{ltb-false}
 use Rattle.std.proofs.lemmas.List.Sums.{fails_before_first}
 use Rattle.std.proofs.lemmas.List.Quantifiers.{position-Some}
 use Rattle.addr_pattern.specs.declared.front.BadKind.{BadKind}
-use Rattle.conf_model.specs.Grammar.{Read, and_then, done, ended_by_zero, name4, is_name_byte}
+use Rattle.socks_grammar.specs.Grammar.{Read, and_then, done, ended_by_zero, name4}
+use Rattle.addr_pattern.specs.Names.{is_name_byte}
 
 -- ---- a part that ends with a 00
 

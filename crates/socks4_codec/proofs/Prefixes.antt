@@ -4,11 +4,12 @@ use Rattle.addr_pattern.specs.declared.addr.Addr.{Addr}
 use Rattle.addr_pattern.specs.declared.host.Host.{Host}
 use Rattle.addr_pattern.specs.declared.front.BadKind.{BadKind}
 use Rattle.addr_pattern.specs.AddressText.{host_of}
-use Rattle.conf_model.specs.declared.protocol.Command.{Command}
-use Rattle.conf_model.specs.Grammar.{Read, Reader, ◌>>=◌, and_then, done, byte_that, number16, number32, is_name_byte, ended_by_zero, means_name, name4, host4, command4, request4, reply4_head}
-use Rattle.conf_model.specs.Prefixes.{StopsExactly}
+use Rattle.socks_grammar.specs.declared.protocol.Command.{Command}
+use Rattle.socks_grammar.specs.Grammar.{Read, Reader, ◌>>=◌, and_then, done, byte_that, number16, number32, ended_by_zero, means_name, name4, host4, command4, request4, reply4_head}
+use Rattle.addr_pattern.specs.Names.{is_name_byte}
+use Rattle.socks_grammar.specs.Prefixes.{StopsExactly}
 use Rattle.socks4_codec.specs.Parts.{name_part, behind_user, behind_addr, parts4, reply4}
-use Rattle.conf_model.proofs.Exact.{IsExact, same-exact, done-exact, cond-exact, bind-exact, byte-exact, number16-exact, number32-exact, stops-exactly}
+use Rattle.socks_grammar.proofs.Exact.{IsExact, same-exact, done-exact, cond-exact, bind-exact, byte-exact, number16-exact, number32-exact, stops-exactly}
 
 -- ---- bytes that end with a 00
 
@@ -74,7 +75,7 @@ parts4-exact = bind-exact _ _ (byte-exact (λ b. b == 4) BadKind.Version 4 refl 
     bind-exact _ _ (byte-exact (λ b. b == 1 || b == 2) BadKind.Command 1 refl refl) (λ code.
     bind-exact number16 _ number16-exact (λ port. bind-exact number32 _ number32-exact (λ addr. behind_addr-exact (command4 code) port addr))))
 
-request4-exact : IsExact request4
+pub request4-exact : IsExact request4
 request4-exact = bind-exact _ _ (byte-exact (λ b. b == 4) BadKind.Version 4 refl refl) (λ version.
     bind-exact _ _ (byte-exact (λ b. b == 1 || b == 2) BadKind.Command 1 refl refl) (λ code.
     bind-exact number16 _ number16-exact (λ port. bind-exact number32 _ number32-exact (λ addr.

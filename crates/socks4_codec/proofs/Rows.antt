@@ -4,8 +4,8 @@ use Rattle.std.specs.Prelude.{replicate}
 use Rattle.addr_pattern.specs.declared.addr.Addr.{Addr}
 use Rattle.addr_pattern.specs.declared.host.Host.{Host}
 use Rattle.addr_pattern.specs.declared.front.BadKind.{BadKind}
-use Rattle.conf_model.specs.declared.protocol.Command.{Command}
-use Rattle.conf_model.specs.Grammar.{Read, request4, spelled_request4}
+use Rattle.socks_grammar.specs.declared.protocol.Command.{Command}
+use Rattle.socks_grammar.specs.Grammar.{Read, request4, spelled_request4}
 use Rattle.socks4_codec.specs.Parts.{parts4, reply4, spelled_reply4}
 
 to-address : parts4 0 (4 ∷ 1 ∷ 0 ∷ 80 ∷ 198 ∷ 51 ∷ 100 ∷ 10 ∷ 0 ∷ 7 ∷ [])

@@ -7,9 +7,9 @@ use Rattle.std.proofs.lemmas.Bool.{leb-true}
 use Rattle.addr_pattern.specs.declared.addr.Addr.{Addr}
 use Rattle.addr_pattern.specs.declared.fault.AddrFault.{AddrFault}
 use Rattle.addr_pattern.specs.declared.host.Host.{Host}
-use Rattle.addr_pattern.specs.Names.{name_of}
-use Rattle.conf_model.specs.declared.protocol.Command.{Command}
-use Rattle.conf_model.specs.Grammar.{Read, ◌>>=◌, and_then, done, is_name_byte, means_name, ended_by_zero, name4, command_byte, request4, spelled_request4}
+use Rattle.addr_pattern.specs.Names.{is_name_byte, name_of}
+use Rattle.socks_grammar.specs.declared.protocol.Command.{Command}
+use Rattle.socks_grammar.specs.Grammar.{Read, ◌>>=◌, and_then, done, means_name, ended_by_zero, name4, command_byte, request4, spelled_request4}
 use Rattle.socks4_codec.specs.Laws.{IsSpelledHost4, RequestsReadAgain, parts_of}
 use Rattle.socks4_codec.specs.Parts.{Parts4, parts4, behind_addr, behind_user, asked_by}
 use Rattle.socks4_codec.specs.Writes.{IsCommand4, IsUser}

@@ -3,7 +3,8 @@ use Rattle.std.proofs.Common.{ℕ, suc, zero, ◌≡◌, ◌≢◌, ◌⊎◌, i
 use Rattle.std.proofs.lemmas.Bool.{ltb-true, ltb-false}
 use Rattle.std.proofs.lemmas.List.{drop-drop}
 use Rattle.addr_pattern.specs.declared.front.BadKind.{BadKind}
-use Rattle.conf_model.specs.Grammar.{Read, Reader, ended_by_zero, name4, is_name_byte}
+use Rattle.socks_grammar.specs.Grammar.{Read, Reader, ended_by_zero, name4}
+use Rattle.addr_pattern.specs.Names.{is_name_byte}
 use Rattle.socks4_codec.specs.Placed.{bytes_in}
 use Rattle.socks4_codec.specs.Reads.{IsEnded}
 use Rattle.socks4_codec.proofs.Ended.{false-unless, ended-got, ended-wrong, ended-short, name-ended, name-empty, name_byte-not-zero, at-first, before-first, without-first}

@@ -4,8 +4,8 @@ use Rattle.addr_pattern.specs.declared.addr.Addr.{Addr}
 use Rattle.addr_pattern.specs.declared.endpoint.Endpoint.{Endpoint}
 use Rattle.addr_pattern.specs.declared.host.Host.{Host}
 use Rattle.addr_pattern.specs.Names.{name_of}
-use Rattle.conf_model.specs.declared.protocol.Command.{Command}
-use Rattle.conf_model.specs.Grammar.{Read, ◌>>=◌, means_name, request4, reply4_head, endpoint4, spelled_request4}
+use Rattle.socks_grammar.specs.declared.protocol.Command.{Command}
+use Rattle.socks_grammar.specs.Grammar.{Read, ◌>>=◌, means_name, request4, reply4_head, endpoint4, spelled_request4}
 use Rattle.socks4_codec.specs.declared.reply.Reply4.{Reply4}
 use Rattle.socks4_codec.specs.Parts.{Parts4, parts4, asked_by, reply4, spelled_reply4}
 use Rattle.socks4_codec.specs.Writes.{IsCommand4, IsUser}

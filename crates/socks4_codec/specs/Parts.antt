@@ -5,8 +5,8 @@ use Rattle.addr_pattern.specs.declared.addr.Addr.{Addr}
 use Rattle.addr_pattern.specs.declared.host.Host.{Host}
 use Rattle.addr_pattern.specs.declared.front.BadKind.{BadKind}
 use Rattle.addr_pattern.specs.AddressText.{host_of}
-use Rattle.conf_model.specs.declared.protocol.Command.{Command}
-use Rattle.conf_model.specs.Grammar.{Reader, Asked, ◌>>=◌, done, byte_that, number16, number32, ended_by_zero, command4, means_name, name4, reply4_head}
+use Rattle.socks_grammar.specs.declared.protocol.Command.{Command}
+use Rattle.socks_grammar.specs.Grammar.{Reader, Asked, ◌>>=◌, done, byte_that, number16, number32, ended_by_zero, command4, means_name, name4, reply4_head}
 use Rattle.socks4_codec.specs.declared.reply.Reply4.{Reply4}
 
 -- what a request spells

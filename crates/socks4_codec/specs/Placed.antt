@@ -1,7 +1,7 @@
 -- What a request has from the places in the bytes that it was read from.
 use Rattle.std.specs.Prelude.{ℕ, ◌+◌, ◌≡◌, ◌≤◌, List, IfSome, drop, length, option_map, slice_range}
 use Rattle.addr_pattern.specs.declared.front.Span.{Span}
-use Rattle.conf_model.specs.Grammar.{Read, request4}
+use Rattle.socks_grammar.specs.Grammar.{Read, request4}
 use Rattle.socks4_codec.specs.declared.request.Request4.{Request4}
 use Rattle.socks4_codec.specs.Parts.{Parts4, parts4, asked_by}
 

@@ -2,11 +2,11 @@
 use Rattle.std.specs.Prelude.{ℕ, ◌+◌, ◌≡◌, ◌≤◌, Result, Ok, Err, List, drop, length}
 use Rattle.addr_pattern.specs.declared.front.Front.{Front}
 use Rattle.addr_pattern.specs.declared.front.Span.{Span}
-use Rattle.conf_model.specs.Grammar.{Read, Reader, request4}
+use Rattle.socks_grammar.specs.Grammar.{Read, Reader, request4}
 use Rattle.socks4_codec.specs.declared.reply.Reply4.{Reply4}
 use Rattle.socks4_codec.specs.declared.request.Request4.{Request4}
 use Rattle.socks4_codec.specs.declared.read_request.Fixed.{Fixed}
-use Rattle.socks4_codec.specs.declared.stop.Stop.{Stop}
+use Rattle.socks_grammar.specs.declared.stop.Stop.{Stop}
 use Rattle.socks4_codec.specs.Parts.{parts4, behind_addr, reply4}
 use Rattle.socks4_codec.specs.Placed.{IsRequest4, IsPlaced4, bytes_in, parts_in}
 

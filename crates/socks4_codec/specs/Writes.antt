@@ -3,7 +3,7 @@ use Rattle.std.specs.Prelude.{ℕ, ◌≤◌, ◌==◌, IsTrue, not, List, lengt
 use Rattle.std.specs.List.{list_all}
 use Rattle.addr_pattern.specs.declared.addr.Addr.{Addr}
 use Rattle.addr_pattern.specs.declared.host.Host.{Host}
-use Rattle.conf_model.specs.declared.protocol.Command.{Command}
+use Rattle.socks_grammar.specs.declared.protocol.Command.{Command}
 
 -- CONNECT and BIND (the SOCKS 4 memo)
 abbrev pub IsCommand4 : Command → Type 0

@@ -2,8 +2,8 @@
 //!
 //! Each function does nothing; its contract is the law.
 
-ghost use Rattle.conf_model.specs.Grammar.{request4};
-ghost use Rattle.conf_model.specs.Prefixes.{StopsExactly};
+ghost use Rattle.socks_grammar.specs.Grammar.{request4};
+ghost use Rattle.socks_grammar.specs.Prefixes.{StopsExactly};
 ghost use Rattle.socks4_codec.specs.Laws.{RequestsReadAgain, RepliesInPieces, RepliesReadAgain};
 ghost use Rattle.socks4_codec.specs.Parts.{parts4, reply4};
 

@@ -7,7 +7,6 @@ mod read_reply;
 mod read_request;
 mod reply;
 mod request;
-mod stop;
 mod write;
 
 pub use read_reply::read_reply4;

@@ -1,18 +1,13 @@
 ghost use Rattle.std.specs.Prelude.{◌≡◌, ◌<◌, ◌≤◌, ◌==◌, ◌&&◌, nat_lt, not, true, length, position, slice_index};
-ghost use Rattle.conf_model.specs.Grammar.{ended_by_zero, name4, is_name_byte as is_name_byte_of};
+ghost use Rattle.socks_grammar.specs.Grammar.{ended_by_zero, name4};
+ghost use Rattle.addr_pattern.specs.Names.{is_name_byte as is_name_byte_of};
 ghost use Rattle.socks4_codec.specs.Reads.{OnEnded};
 
-use crate::stop::Stop;
-use addr_pattern::{BadKind, Span};
+use addr_pattern::{BadKind, Span, is_name_byte};
+use socks_grammar::Stop;
 
 /// The most bytes of a user or a name.
 const LIMIT: usize = 255;
-
-fn is_name_byte(byte: u8) -> bool
-    ensures { result ≡ is_name_byte_of byte }
-{
-    33 <= byte && byte <= 126
-}
 
 fn first_zero(bytes: &[u8]) -> Option<usize>
     ensures { result ≡ position (λ b. b == 0) bytes.now }

@@ -1,12 +1,11 @@
 ghost use Rattle.std.specs.Prelude.{◌≡◌};
-ghost use Rattle.conf_model.specs.Grammar.{means_name as means_name_of};
+ghost use Rattle.socks_grammar.specs.Grammar.{means_name as means_name_of};
 ghost use Rattle.socks4_codec.specs.Reads.{OnFixed4, OnRequest4, OnWhole4};
 
 use crate::read_name::{read_name, read_user};
 use crate::request::Request4;
-use crate::stop::Stop;
 use addr_pattern::{BadKind, Front};
-use conf_model::Command;
+use socks_grammar::{Command, Stop};
 
 /// The part of a request that always has 8 bytes.
 #[derive(Clone, Copy, PartialEq, Eq, Debug)]

@@ -1,11 +1,11 @@
 ghost use Rattle.std.specs.Prelude.{◌≡◌, ◌≤◌, ◌+◌, ◌++◌, ◌∷◌, [], length};
-ghost use Rattle.conf_model.specs.Grammar.{command_byte, spelled_host4, spelled_request4};
+ghost use Rattle.socks_grammar.specs.Grammar.{command_byte, spelled_host4, spelled_request4};
 ghost use Rattle.socks4_codec.specs.Parts.{spelled_reply4};
 ghost use Rattle.socks4_codec.specs.Writes.{IsCommand4, IsHost4, IsUser};
 
 use crate::reply::Reply4;
 use addr_pattern::{Addr, Host, Short};
-use conf_model::Command;
+use socks_grammar::Command;
 
 /// The code of a command: 1 for Connect, 2 for Bind (the SOCKS 4 memo).
 fn code_of(command: Command) -> u8

@@ -2,7 +2,7 @@
 use Rattle.std.proofs.Common.{ℕ, ◌≡◌, ◌==◌, ◌||◌, Bool, true, false, cond, List, [], ◌∷◌, refl, sym, ap, ◌∙◌, ◌+◌}
 use Rattle.addr_pattern.specs.declared.host.Host.{Host}
 use Rattle.addr_pattern.specs.declared.front.BadKind.{BadKind}
-use Rattle.conf_model.specs.Grammar.{Read, Reader, Asked, ◌>>=◌, and_then, done, byte_that, any_byte, command5, number16, number32, number128, name5, is_atyp, host5, host_by_type, request5, UdpHeader, any_bytes, udp_header}
+use Rattle.socks_grammar.specs.Grammar.{Read, Reader, Asked, ◌>>=◌, and_then, done, byte_that, any_byte, command5, number16, number32, number128, name5, is_atyp, host5, host_by_type, request5, UdpHeader, any_bytes, udp_header}
 use Rattle.socks5_codec.specs.Parts.{Destination, typed_host, host_spelled, ipv4_spelled, ipv6_spelled, name_spelled, meant, destination, asked_for, asked_by, request_spelled, header_spelled, header_by}
 
 abbrev pub map-read : {A B : Type 0} → (A → B) → Read A → Read B

@@ -5,7 +5,7 @@ use Rattle.std.proofs.lemmas.Bool.{ltb-false}
 use Rattle.std.proofs.lemmas.List.Quantifiers.{position-Some}
 use Rattle.std.proofs.lemmas.List.Sums.{fails_before_first}
 use Rattle.addr_pattern.specs.declared.front.BadKind.{BadKind}
-use Rattle.conf_model.specs.Grammar.{Read, and_then, done, bytes_that}
+use Rattle.socks_grammar.specs.Grammar.{Read, and_then, done, bytes_that}
 
 module _ (at b : ℕ) (kind : BadKind) (r : Read (List ℕ)) where
   -- what is read in front of the bytes, by whether the first passes

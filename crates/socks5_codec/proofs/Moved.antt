@@ -2,7 +2,8 @@
 use Rattle.std.proofs.Common.{ℕ, zero, suc, ◌≡◌, ◌+◌, Bool, true, false, cond, ◌==◌, List, [], ◌∷◌, refl, ap, ◌∙◌, arith}
 use Rattle.std.specs.Int.{w16, w32, w128, from_be_bytes}
 use Rattle.addr_pattern.specs.declared.front.BadKind.{BadKind}
-use Rattle.conf_model.specs.Grammar.{Read, Reader, ◌>>=◌, and_then, done, byte_that, any_byte, any_bytes, bytes_that, number16, number32, number128, is_name_byte, name5, is_atyp, host_by_type, host5, request5, reply5_head}
+use Rattle.socks_grammar.specs.Grammar.{Read, Reader, ◌>>=◌, and_then, done, byte_that, any_byte, any_bytes, bytes_that, number16, number32, number128, name5, is_atyp, host_by_type, host5, request5, reply5_head}
+use Rattle.addr_pattern.specs.Names.{is_name_byte}
 use Rattle.socks5_codec.specs.Laws.{moved_by, IsSameAnywhere}
 use Rattle.socks5_codec.specs.Parts.{host_spelled, typed_host, destination, request_spelled, reply5}
 

@@ -3,7 +3,8 @@ use Rattle.std.proofs.Common.{ℕ, suc, ◌≡◌, ◌≢◌, ◌+◌, ◌-◌, 
 use Rattle.std.proofs.lemmas.List.{drop-drop}
 use Rattle.addr_pattern.specs.declared.host.Host.{Host}
 use Rattle.addr_pattern.specs.declared.front.BadKind.{BadKind}
-use Rattle.conf_model.specs.Grammar.{Read, and_then, done, bytes_that, name5, is_name_byte}
+use Rattle.socks_grammar.specs.Grammar.{Read, and_then, done, bytes_that, name5}
+use Rattle.addr_pattern.specs.Names.{is_name_byte}
 use Rattle.socks5_codec.specs.declared.message.HostAt.{HostAt}
 use Rattle.socks5_codec.specs.Parts.{name_spelled}
 use Rattle.socks5_codec.specs.Placed.{bytes_in}

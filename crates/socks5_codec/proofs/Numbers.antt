@@ -5,7 +5,7 @@ use Rattle.std.proofs.lemmas.List.{drop-drop}
 use Rattle.addr_pattern.specs.declared.addr.Addr.{Addr}
 use Rattle.addr_pattern.specs.declared.host.Host.{Host}
 use Rattle.addr_pattern.specs.declared.front.BadKind.{BadKind}
-use Rattle.conf_model.specs.Grammar.{Read, Reader, and_then, done, any_bytes, greeting}
+use Rattle.socks_grammar.specs.Grammar.{Read, Reader, and_then, done, any_bytes, greeting}
 use Rattle.socks5_codec.specs.declared.message.HostAt.{HostAt}
 use Rattle.socks5_codec.specs.Parts.{ipv4_spelled, ipv6_spelled}
 use Rattle.socks5_codec.specs.Placed.{NameStands, IsGreeting, bytes_in, host_in}

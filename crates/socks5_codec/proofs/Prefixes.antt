@@ -2,10 +2,11 @@
 use Rattle.std.proofs.Common.{ℕ, true, not, ◌==◌, ◌||◌, refl}
 use Rattle.std.specs.Int.{w128, from_be_bytes}
 use Rattle.addr_pattern.specs.declared.front.BadKind.{BadKind}
-use Rattle.conf_model.specs.Grammar.{done, byte_that, any_byte, any_bytes, bytes_that, number16, number32, number128, is_name_byte, name5, is_atyp, host_by_type, host5, greeting, method_answer, request5, reply5_head, udp_header}
-use Rattle.conf_model.specs.Prefixes.{StopsExactly}
+use Rattle.socks_grammar.specs.Grammar.{done, byte_that, any_byte, any_bytes, bytes_that, number16, number32, number128, name5, is_atyp, host_by_type, host5, greeting, method_answer, request5, reply5_head, udp_header}
+use Rattle.addr_pattern.specs.Names.{is_name_byte}
+use Rattle.socks_grammar.specs.Prefixes.{StopsExactly}
 use Rattle.socks5_codec.specs.Parts.{host_spelled, typed_host, destination, request_spelled, reply5, header_spelled}
-use Rattle.conf_model.proofs.Exact.{IsExact, done-exact, cond-exact, bind-exact, byte-exact, any_byte-exact, bytes-exact, any_bytes-exact, number16-exact, stops-exactly, number32-exact}
+use Rattle.socks_grammar.proofs.Exact.{IsExact, done-exact, cond-exact, bind-exact, byte-exact, any_byte-exact, bytes-exact, any_bytes-exact, number16-exact, stops-exactly, number32-exact}
 
 version-exact : IsExact (byte_that (λ b. b == 5) BadKind.Version)
 version-exact = byte-exact (λ b. b == 5) BadKind.Version 5 refl refl
@@ -38,7 +39,7 @@ destination-exact = bind-exact typed_host _ typed_host-exact (λ host. bind-exac
 
 -- ---- the messages
 
-greeting-exact : IsExact greeting
+pub greeting-exact : IsExact greeting
 greeting-exact = bind-exact _ _ version-exact (λ version. bind-exact any_byte _ any_byte-exact (λ count. any_bytes-exact count))
 
 method-exact : IsExact method_answer
@@ -48,7 +49,7 @@ request_spelled-exact : IsExact request_spelled
 request_spelled-exact = bind-exact _ _ version-exact (λ version. bind-exact _ _ (byte-exact (λ b. b == 1 || b == 2 || b == 3) BadKind.Command 1 refl refl) (λ code.
     bind-exact any_byte _ any_byte-exact (λ reserved. bind-exact destination _ destination-exact (λ d. done-exact _))))
 
-request5-exact : IsExact request5
+pub request5-exact : IsExact request5
 request5-exact = bind-exact _ _ version-exact (λ version. bind-exact _ _ (byte-exact (λ b. b == 1 || b == 2 || b == 3) BadKind.Command 1 refl refl) (λ code.
     bind-exact any_byte _ any_byte-exact (λ reserved. bind-exact host5 _ host5-exact (λ host. bind-exact number16 _ number16-exact (λ port. done-exact _)))))
 

@@ -7,10 +7,10 @@ use Rattle.addr_pattern.specs.declared.addr.Addr.{Addr}
 use Rattle.addr_pattern.specs.declared.fault.AddrFault.{AddrFault}
 use Rattle.addr_pattern.specs.declared.host.Host.{Host}
 use Rattle.addr_pattern.specs.declared.front.BadKind.{BadKind}
-use Rattle.addr_pattern.specs.Names.{name_of}
+use Rattle.addr_pattern.specs.Names.{is_name_byte, name_of}
 use Rattle.addr_pattern.specs.ReadAgain.{IsAddr}
-use Rattle.conf_model.specs.declared.protocol.Command.{Command}
-use Rattle.conf_model.specs.Grammar.{Read, ◌>>=◌, and_then, done, bytes_that, is_name_byte, number16, command_byte, spelled_request5}
+use Rattle.socks_grammar.specs.declared.protocol.Command.{Command}
+use Rattle.socks_grammar.specs.Grammar.{Read, ◌>>=◌, and_then, done, bytes_that, number16, command_byte, spelled_request5}
 use Rattle.socks5_codec.specs.Laws.{RequestsReadAgain, asked_of}
 use Rattle.socks5_codec.specs.Parts.{destination, name_spelled, request_spelled, asked_for, asked_by}
 use Rattle.socks5_codec.specs.Writes.{IsCommand5}

@@ -4,8 +4,8 @@ use Rattle.addr_pattern.specs.declared.endpoint.Endpoint.{Endpoint}
 use Rattle.addr_pattern.specs.declared.host.Host.{Host}
 use Rattle.addr_pattern.specs.Names.{name_of}
 use Rattle.addr_pattern.specs.ReadAgain.{IsAddr, IsEndpoint}
-use Rattle.conf_model.specs.declared.protocol.Command.{Command}
-use Rattle.conf_model.specs.Grammar.{Read, Reader, Asked, UdpHeader, ◌>>=◌, greeting, method_answer, request5, udp_header, reply5_head, reply5_rest, endpoint_of, spelled_greeting, spelled_request5, spelled_udp_header}
+use Rattle.socks_grammar.specs.declared.protocol.Command.{Command}
+use Rattle.socks_grammar.specs.Grammar.{Read, Reader, Asked, UdpHeader, ◌>>=◌, greeting, method_answer, request5, udp_header, reply5_head, reply5_rest, endpoint_of, spelled_greeting, spelled_request5, spelled_udp_header}
 use Rattle.socks5_codec.specs.Parts.{Replied, request_spelled, asked_by, reply5, header_spelled, meant}
 use Rattle.socks5_codec.specs.Writes.{IsCommand5, spelled_method, spelled_reply5}
 

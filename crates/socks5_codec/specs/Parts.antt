@@ -4,8 +4,8 @@ use Rattle.addr_pattern.specs.declared.addr.Addr.{Addr}
 use Rattle.addr_pattern.specs.declared.host.Host.{Host}
 use Rattle.addr_pattern.specs.declared.front.BadKind.{BadKind}
 use Rattle.addr_pattern.specs.AddressText.{host_of}
-use Rattle.conf_model.specs.declared.protocol.Command.{Command}
-use Rattle.conf_model.specs.Grammar.{Reader, Asked, UdpHeader, ◌>>=◌, done, byte_that, any_byte, any_bytes, number16, number32, number128, name5, is_atyp, command5, reply5_head}
+use Rattle.socks_grammar.specs.declared.protocol.Command.{Command}
+use Rattle.socks_grammar.specs.Grammar.{Reader, Asked, UdpHeader, ◌>>=◌, done, byte_that, any_byte, any_bytes, number16, number32, number128, name5, is_atyp, command5, reply5_head}
 
 -- an address of IPv4, an address of IPv6, a name (RFC 1928, section 5)
 abbrev pub ipv4_spelled : Reader Host

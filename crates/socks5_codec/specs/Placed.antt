@@ -2,7 +2,7 @@
 use Rattle.std.specs.Prelude.{ℕ, ◌+◌, ◌≡◌, ◌≤◌, List, drop, length, slice_range}
 use Rattle.addr_pattern.specs.declared.front.Span.{Span}
 use Rattle.addr_pattern.specs.declared.host.Host.{Host}
-use Rattle.conf_model.specs.Grammar.{Read, Asked, UdpHeader, greeting, request5, udp_header}
+use Rattle.socks_grammar.specs.Grammar.{Read, Asked, UdpHeader, greeting, request5, udp_header}
 use Rattle.socks5_codec.specs.declared.message.Greeting.{Greeting}
 use Rattle.socks5_codec.specs.declared.message.HostAt.{HostAt}
 use Rattle.socks5_codec.specs.declared.message.Reply5.{Reply5}

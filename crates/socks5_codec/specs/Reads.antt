@@ -1,7 +1,7 @@
 -- What a reader answers, by cases.
 use Rattle.std.specs.Prelude.{ℕ, ◌≡◌, ◌≤◌, List, drop, length}
 use Rattle.addr_pattern.specs.declared.front.Front.{Front}
-use Rattle.conf_model.specs.Grammar.{Read, greeting, method_answer, request5, udp_header}
+use Rattle.socks_grammar.specs.Grammar.{Read, greeting, method_answer, request5, udp_header}
 use Rattle.socks5_codec.specs.declared.message.Greeting.{Greeting}
 use Rattle.socks5_codec.specs.declared.message.Reply5.{Reply5}
 use Rattle.socks5_codec.specs.declared.message.Request5.{Request5}

@@ -1,14 +1,14 @@
 -- What a part of a reader answers, by cases.
 use Rattle.std.specs.Prelude.{ℕ, ◌+◌, ◌≡◌, ◌≤◌, Result, Ok, Err, List, drop, length}
 use Rattle.addr_pattern.specs.declared.host.Host.{Host}
-use Rattle.conf_model.specs.declared.protocol.Command.{Command}
-use Rattle.conf_model.specs.Grammar.{Read, Reader, ◌>>=◌, done}
+use Rattle.socks_grammar.specs.declared.protocol.Command.{Command}
+use Rattle.socks_grammar.specs.Grammar.{Read, Reader, ◌>>=◌, done}
 use Rattle.socks5_codec.specs.declared.destination.Towards.{Towards}
 use Rattle.socks5_codec.specs.declared.message.HostAt.{HostAt}
 use Rattle.socks5_codec.specs.declared.message.Reply5.{Reply5}
 use Rattle.socks5_codec.specs.declared.message.Request5.{Request5}
 use Rattle.socks5_codec.specs.declared.message.UdpHead.{UdpHead}
-use Rattle.socks5_codec.specs.declared.stop.Stop.{Stop}
+use Rattle.socks_grammar.specs.declared.stop.Stop.{Stop}
 use Rattle.socks5_codec.specs.Parts.{destination, asked_for, request_spelled, reply5, header_spelled}
 use Rattle.socks5_codec.specs.Placed.{IsReply5, NameStands, host_in, request_in, header_in}
 

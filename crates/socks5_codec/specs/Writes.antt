@@ -1,8 +1,8 @@
 -- What messages spell that no reader of the grammar has.
 use Rattle.std.specs.Prelude.{ℕ, List, [], ◌∷◌}
 use Rattle.addr_pattern.specs.declared.endpoint.Endpoint.{Endpoint}
-use Rattle.conf_model.specs.declared.protocol.Command.{Command}
-use Rattle.conf_model.specs.Grammar.{spelled_endpoint}
+use Rattle.socks_grammar.specs.declared.protocol.Command.{Command}
+use Rattle.socks_grammar.specs.Grammar.{spelled_endpoint}
 
 -- CONNECT, BIND and UDP ASSOCIATE (RFC 1928, section 4)
 abbrev pub IsCommand5 : Command → Type 0

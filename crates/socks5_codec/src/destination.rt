@@ -3,7 +3,7 @@ ghost use Rattle.socks5_codec.specs.Steps.{OnTowards};
 
 use crate::host::read_host;
 use crate::message::HostAt;
-use crate::stop::Stop;
+use socks_grammar::Stop;
 
 /// A host and a port, and the place behind them.
 #[derive(Clone, Copy, PartialEq, Eq, Debug)]

@@ -1,17 +1,11 @@
 ghost use Rattle.std.specs.Prelude.{◌≡◌, ◌≤◌, ◌+◌, not, length, position};
-ghost use Rattle.conf_model.specs.Grammar.{is_name_byte as is_name_byte_of};
+ghost use Rattle.addr_pattern.specs.Names.{is_name_byte as is_name_byte_of};
 ghost use Rattle.socks5_codec.specs.Parts.{ipv4_spelled, ipv6_spelled, name_spelled, typed_host};
 ghost use Rattle.socks5_codec.specs.Steps.{OnHost};
 
 use crate::message::HostAt;
-use crate::stop::Stop;
-use addr_pattern::{Addr, BadKind, Span};
-
-fn is_name_byte(byte: u8) -> bool
-    ensures { result ≡ is_name_byte_of byte }
-{
-    33 <= byte && byte <= 126
-}
+use addr_pattern::{Addr, BadKind, Span, is_name_byte};
+use socks_grammar::Stop;
 
 fn first_unfit(bytes: &[u8]) -> Option<usize>
     ensures { result ≡ position (λ b. not (is_name_byte_of b)) bytes.now }

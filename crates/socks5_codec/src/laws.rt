@@ -2,8 +2,8 @@
 //!
 //! Each function does nothing; its contract is the law.
 
-ghost use Rattle.conf_model.specs.Grammar.{greeting, method_answer, request5, udp_header};
-ghost use Rattle.conf_model.specs.Prefixes.{StopsExactly};
+ghost use Rattle.socks_grammar.specs.Grammar.{greeting, method_answer, request5, udp_header};
+ghost use Rattle.socks_grammar.specs.Prefixes.{StopsExactly};
 ghost use Rattle.socks5_codec.specs.Laws.{GreetingsReadAgain, HeadersReadAgain, IsSameAnywhere, MethodsReadAgain, RepliesInPieces, RepliesReadAgain, RequestsReadAgain};
 ghost use Rattle.socks5_codec.specs.Parts.{header_spelled, reply5, request_spelled};
 

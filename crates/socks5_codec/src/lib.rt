@@ -8,7 +8,6 @@ pub mod laws;
 mod message;
 mod reply;
 mod request;
-mod stop;
 mod udp;
 mod write;
 

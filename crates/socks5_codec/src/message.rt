@@ -1,5 +1,5 @@
 use addr_pattern::{Addr, Span};
-use conf_model::Command;
+use socks_grammar::Command;
 
 /// The methods that a client offers, by their place in the bytes: none to 255 of them, a byte each.
 #[derive(Clone, Copy, PartialEq, Eq, Debug)]

@@ -3,8 +3,8 @@ ghost use Rattle.socks5_codec.specs.Steps.{OnReply};
 
 use crate::destination::{Towards, read_towards};
 use crate::message::Reply5;
-use crate::stop::Stop;
 use addr_pattern::{BadKind, Front};
+use socks_grammar::Stop;
 
 fn read_whole(bytes: &[u8]) -> Result<(Reply5, usize), Stop>
     ensures { OnReply bytes.now result }

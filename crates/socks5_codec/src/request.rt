@@ -3,9 +3,8 @@ ghost use Rattle.socks5_codec.specs.Steps.{OnHead, OnWhole};
 
 use crate::destination::{Towards, read_towards};
 use crate::message::Request5;
-use crate::stop::Stop;
 use addr_pattern::{BadKind, Front};
-use conf_model::Command;
+use socks_grammar::{Command, Stop};
 
 /// Version, command and reserved byte (RFC 1928, section 4).
 fn read_head(bytes: &[u8]) -> Result<Command, Stop>

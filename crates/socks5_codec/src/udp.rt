@@ -1,13 +1,13 @@
 ghost use Rattle.std.specs.Prelude.{◌≡◌};
-ghost use Rattle.conf_model.specs.Grammar.{spelled_udp_header};
+ghost use Rattle.socks_grammar.specs.Grammar.{spelled_udp_header};
 ghost use Rattle.socks5_codec.specs.Reads.{OnUdpHead};
 ghost use Rattle.socks5_codec.specs.Steps.{OnHeader};
 
 use crate::destination::{Towards, read_towards};
 use crate::message::UdpHead;
-use crate::stop::Stop;
 use crate::write::add_endpoint;
 use addr_pattern::{Endpoint, Front, Short};
+use socks_grammar::Stop;
 
 fn read_whole(bytes: &[u8]) -> Result<(UdpHead, usize), Stop>
     ensures { OnHeader bytes.now result }

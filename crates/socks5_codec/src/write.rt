@@ -1,9 +1,9 @@
 ghost use Rattle.std.specs.Prelude.{◌≡◌, ◌≤◌, ◌+◌, ◌++◌, length};
-ghost use Rattle.conf_model.specs.Grammar.{command_byte, spelled_addr, spelled_endpoint, spelled_greeting, spelled_host, spelled_request5};
+ghost use Rattle.socks_grammar.specs.Grammar.{command_byte, spelled_addr, spelled_endpoint, spelled_greeting, spelled_host, spelled_request5};
 ghost use Rattle.socks5_codec.specs.Writes.{IsCommand5, spelled_method, spelled_reply5};
 
 use addr_pattern::{Addr, Endpoint, Host, Short};
-use conf_model::Command;
+use socks_grammar::Command;
 
 /// The code of a command: 1 for Connect, 2 for Bind, 3 for UdpAssociate (RFC 1928, section 4).
 fn code_of(command: Command) -> u8

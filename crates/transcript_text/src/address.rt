@@ -2,7 +2,7 @@ ghost use Rattle.std.specs.Prelude.{◌≡◌, ◌++◌, OnOk};
 ghost use Rattle.addr_pattern.specs.AddressText.{addr_text, endpoint_text};
 
 use addr_pattern::{Addr, Endpoint};
-use conf_text::Text;
+use lists::Text;
 use std::alloc::AllocError;
 
 /// Appends an address.

@@ -8,9 +8,9 @@ use crate::address::{add_addr, add_endpoint};
 use crate::hex::add_hex_word;
 use crate::number::{add_number_word, add_word};
 use addr_pattern::{Addr, Endpoint};
-use conf_model::Stage;
-use conf_text::Text;
+use lists::Text;
 use rule_list::Verdict;
+use socks_grammar::Stage;
 use socks_machine::{Cause, ListKind, Standing, StopBy};
 use std::alloc::{AllocError, Global};
 

@@ -8,7 +8,7 @@ ghost use Rattle.transcript_text.specs.Endings.{cause_word, end_word, bytes_word
 use crate::cause::add_cause;
 use crate::hex::add_bytes;
 use crate::number::add_number_word;
-use conf_text::Text;
+use lists::Text;
 use socks_machine::{Cause, Record};
 use std::alloc::{AllocError, Global};
 

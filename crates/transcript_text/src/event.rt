@@ -4,7 +4,7 @@ ghost use Rattle.socks_machine.specs.Transcript.{line};
 ghost use Rattle.transcript_text.specs.Pieces.{counted_line};
 
 use crate::number::add_number_word;
-use conf_text::Text;
+use lists::Text;
 use std::alloc::{AllocError, Global};
 
 /// Appends the line of a configuration that was published, of this generation.

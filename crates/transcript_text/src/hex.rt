@@ -3,7 +3,7 @@ ghost use Rattle.addr_pattern.specs.AddressText.{hex_digit as digit_text, hex_te
 ghost use Rattle.socks_machine.specs.Transcript.{bytes_text};
 ghost use Rattle.transcript_text.specs.Pieces.{hex_pair};
 
-use conf_text::Text;
+use lists::Text;
 use std::alloc::AllocError;
 
 /// The lower-case hexadecimal digit of a number below 16.

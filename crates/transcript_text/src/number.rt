@@ -2,7 +2,7 @@ ghost use Rattle.std.specs.Prelude.{◌≡◌, ◌++◌, ◌∷◌, OnOk};
 ghost use Rattle.addr_pattern.specs.AddressText.{number_text};
 ghost use Rattle.transcript_text.specs.Pieces.{digits};
 
-use conf_text::Text;
+use lists::Text;
 use std::alloc::{AllocError, Global};
 
 /// Appends a number in decimal digits, without leading zeros.

@@ -8,7 +8,7 @@ ghost use Rattle.transcript_text.specs.Endings.{next_word, turn_counts, line_of}
 use crate::cause::add_count;
 use crate::ending::add_end_word;
 use crate::number::{add_number_word, add_word};
-use conf_text::Text;
+use lists::Text;
 use socks_machine::{NextMark, Record};
 use std::alloc::{AllocError, Global};
 

@@ -5,13 +5,13 @@ use Rattle.addr_pattern.specs.declared.endpoint.Endpoint.{Endpoint}
 use Rattle.addr_pattern.specs.declared.pattern.HostPattern.{HostPattern}
 use Rattle.addr_pattern.specs.declared.pattern.Pattern.{Pattern}
 use Rattle.addr_pattern.specs.declared.pattern.PortTest.{PortTest}
-use Rattle.conf_model.specs.declared.config.Config.{Config}
-use Rattle.conf_model.specs.declared.protocol.Command.{Command}
-use Rattle.conf_model.specs.declared.protocol.Method.{Method}
-use Rattle.conf_model.specs.declared.protocol.Version.{Version}
-use Rattle.conf_model.specs.declared.route.Via.{Via}
-use Rattle.conf_model.specs.declared.rule.ClientRule.{ClientRule}
-use Rattle.conf_model.specs.declared.rule.SocksRule.{SocksRule}
+use Rattle.conf_types.specs.declared.entries.Entries.{Entries}
+use Rattle.socks_grammar.specs.declared.protocol.Command.{Command}
+use Rattle.socks_grammar.specs.declared.protocol.Method.{Method}
+use Rattle.socks_grammar.specs.declared.protocol.Version.{Version}
+use Rattle.conf_types.specs.declared.route.Via.{Via}
+use Rattle.conf_types.specs.declared.rule.ClientRule.{ClientRule}
+use Rattle.conf_types.specs.declared.rule.SocksRule.{SocksRule}
 use Rattle.conf_model.specs.Settings.{default}
 use Rattle.verdict_text.specs.declared.question.Question.{Question}
 use Rattle.verdict_text.specs.Decisions.{decision_text}
@@ -61,7 +61,7 @@ ask from to command = record { from = from; to = to; name = None; command = comm
 
 -- ---- the configuration of an office: 10.0.0.1 port 1080, 0.0.0.0/0 for any address
 
-office : Config
+office : Entries
 office = record default {
   internals = at 167772161 1080 ∷ [];
   methods = Method.Username ∷ Method.NoAuth ∷ [];
@@ -105,7 +105,7 @@ office_binds_nothing = refl
 
 -- ---- everything passes, by a proxy of SOCKS 4 at 192.0.2.1 port 1080
 
-proxied : Config
+proxied : Entries
 proxied = record default {
   internals = at 2130706433 1080 ∷ [];
   client = client_rule true any any ∷ [];

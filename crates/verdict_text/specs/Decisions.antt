@@ -2,11 +2,11 @@
 use Rattle.std.specs.Prelude.{ℕ, Bool, true, false, if◌then◌else◌, Option, Some, None, List, [], ◌∷◌, ◌++◌, codes, slice_get}
 use Rattle.addr_pattern.specs.declared.endpoint.Endpoint.{Endpoint}
 use Rattle.addr_pattern.specs.AddressText.{endpoint_text, number_text}
-use Rattle.conf_model.specs.declared.config.Config.{Config}
-use Rattle.conf_model.specs.declared.protocol.Command.{Command}
-use Rattle.conf_model.specs.declared.protocol.Method.{Method}
-use Rattle.conf_model.specs.declared.protocol.Version.{Version}
-use Rattle.conf_model.specs.declared.route.Via.{Via}
+use Rattle.conf_types.specs.declared.entries.Entries.{Entries}
+use Rattle.socks_grammar.specs.declared.protocol.Command.{Command}
+use Rattle.socks_grammar.specs.declared.protocol.Method.{Method}
+use Rattle.socks_grammar.specs.declared.protocol.Version.{Version}
+use Rattle.conf_types.specs.declared.route.Via.{Via}
 use Rattle.conf_model.specs.Canonical.{text_of, version_word}
 use Rattle.rule_list.specs.declared.facts.Facts.{Facts}
 use Rattle.rule_list.specs.declared.verdict.Verdict.{Verdict}
@@ -42,7 +42,7 @@ facts_at q (Some local) (Some method) = Some (record {
 })
 
 -- a client of SOCKS 5 without a user, which came at the first endpoint and has chosen the first method
-abbrev pub facts_of : Config → Question → Option Facts
+abbrev pub facts_of : Entries → Question → Option Facts
 facts_of config q = facts_at q (slice_get config.internals 0) (slice_get config.methods 0)
 
 -- ---- lines
@@ -76,20 +76,20 @@ is_connect Command.Connect = true
 is_connect _ = false
 
 -- only a connection has a route
-abbrev pub route_lines : Config → Facts → List (List ℕ)
+abbrev pub route_lines : Entries → Facts → List (List ℕ)
 route_lines config facts = if is_connect facts.command then route_line (route_of config facts) (via_of config (route_of config facts)) ∷ [] else []
 
-abbrev pub decision_lines : Config → Facts → List (List ℕ)
+abbrev pub decision_lines : Entries → Facts → List (List ℕ)
 decision_lines config facts =
     verdict_lines (judge config facts)
     ++ (if is_pass (judge config facts) then route_lines config facts ++ codes "verdict pass" ∷ [] else codes "verdict block" ∷ [])
 
 -- ---- the whole
 
-abbrev pub text_of_facts : Config → Option Facts → List ℕ
+abbrev pub text_of_facts : Entries → Option Facts → List ℕ
 text_of_facts config None = []
 text_of_facts config (Some facts) = text_of (decision_lines config facts)
 
 -- what is decided, in lines; nothing of what is no configuration, without an endpoint to listen on or without a method
-abbrev pub decision_text : Config → Question → List ℕ
+abbrev pub decision_text : Entries → Question → List ℕ
 decision_text config q = text_of_facts config (facts_of config q)

@@ -1,9 +1,9 @@
 ghost use Rattle.std.specs.Prelude.{◌≡◌, Some};
-ghost use Rattle.conf_model.specs.Kept.{IsConfig};
 
 use addr_pattern::{Endpoint, Name};
-use conf_model::{Command, Config, Version};
+use conf_types::Config;
 use rule_list::Facts;
+use socks_grammar::{Command, Version};
 
 /// What a configuration is asked: may this go from here to there by this command? The name, if any, is the one under which
 /// `to` is asked for. In a reply, `from` is what answers, and `to` is the client.
@@ -40,10 +40,10 @@ impl Question {
     /// The facts of a client of SOCKS 5 without a user, which came at the first `internal` endpoint and has chosen the first
     /// method.
     pub(crate) fn facts(&self, config: &Config) -> Facts
-        requires { IsConfig config.now }
         ensures { facts_of config.now self.now ≡ Some result }
     {
-        match (config.internals.get(0), config.methods.get(0)) {
+        let entries = config.entries();
+        match (entries.internals.get(0), entries.methods.get(0)) {
             (Some(local), Some(method)) => Facts {
                 peer: self.client(),
                 local: *local,

@@ -1,7 +1,10 @@
 use super::*;
 use addr_pattern::{Endpoint, Name};
-use conf_model::{Command, Config};
+use conf_model::read_config;
+use socks_grammar::Command;
 use std::alloc::Global;
+
+mod rules;
 
 /// The configuration of an office, as a user of Dante writes it.
 const OFFICE: &str = "\
@@ -26,22 +29,6 @@ socks pass {
 socks pass { from: 10.0.0.0/8 to: 0.0.0.0/0 protocol: tcp udp command: connect udpassociate }
 ";
 
-/// Everything passes, by a proxy of SOCKS 4.
-const PROXIED: &str = "\
-internal: 127.0.0.1 port = 1080
-client pass { from: 0/0 to: 0/0 }
-socks pass { from: 0/0 to: 0/0 }
-route { from: 0/0 to: 0/0 via: 192.0.2.1 proxyprotocol: socks_v4 }
-";
-
-/// One host passes by its name, and goes directly by its route.
-const NAMED: &str = "\
-internal: ::1 port = 1080
-client pass { from: 0/0 to: 0/0 }
-socks pass { from: 0/0 to: a.test }
-route { from: 0/0 to: 0/0 via: direct }
-";
-
 /// Whether the answer to a question is these lines.
 fn answers(
     alloc: Global,
@@ -49,7 +36,7 @@ fn answers(
     question: (&str, &str, &str, Command),
     lines: &str,
 ) -> Option<bool> {
-    let Ok(config) = Config::read(alloc, text.as_bytes()) else {
+    let Ok(config) = read_config(alloc, text.as_bytes()) else {
         return None;
     };
     let name = match question.1.as_bytes() {
@@ -118,56 +105,4 @@ fn an_office(rt: HostRuntime) {
             "{from} {to}"
         );
     }
-}
-
-#[test]
-fn routes(rt: HostRuntime) {
-    let from = "10.0.0.5:5000";
-    let by_proxy = "client 1 pass\nsocks 1 pass\nroute 1 192.0.2.1:1080 socks_v4\nverdict pass\n";
-    assert!(rt;
-        answers(
-            rt.alloc(),
-            PROXIED,
-            (from, "-", "198.51.100.10:80", Command::Connect),
-            by_proxy
-        ) == Some(true)
-    );
-    let directly = "client 1 pass\nsocks 1 pass\nroute direct\nverdict pass\n";
-    assert!(rt;
-        answers(
-            rt.alloc(),
-            PROXIED,
-            (from, "-", "[2001:db8::1]:80", Command::Connect),
-            directly
-        ) == Some(true)
-    );
-    assert!(rt;
-        answers(
-            rt.alloc(),
-            NAMED,
-            (from, "A.test", "192.0.2.7:80", Command::Connect),
-            directly
-        ) == Some(true)
-    );
-}
-
-#[test]
-fn a_name_that_no_rule_has(rt: HostRuntime) {
-    let lines = "client 1 pass\nsocks none\nverdict block\n";
-    assert!(rt;
-        answers(
-            rt.alloc(),
-            NAMED,
-            ("10.0.0.5:5000", "-", "192.0.2.7:80", Command::Connect),
-            lines
-        ) == Some(true)
-    );
-    assert!(rt;
-        answers(
-            rt.alloc(),
-            NAMED,
-            ("10.0.0.5:5000", "b.test", "192.0.2.7:80", Command::Connect),
-            lines
-        ) == Some(true)
-    );
 }

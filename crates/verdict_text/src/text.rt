@@ -1,17 +1,16 @@
 ghost use Rattle.std.specs.Prelude.{◌≡◌, ◌∷◌, [], IfOk, OnOk};
 ghost use Rattle.std.specs.Option.{option_copied};
 ghost use Rattle.conf_model.specs.Canonical.{version_word as version_word_of};
-ghost use Rattle.conf_model.specs.Kept.{IsConfig};
 ghost use Rattle.conf_model.specs.Writing.{Adds};
-ghost use Rattle.rule_list.specs.Numbers.{FitsNumbers};
 ghost use Rattle.rule_list.specs.Rules.{is_pass as is_pass_of, numbered, via_of};
 ghost use Rattle.verdict_text.specs.Decisions.{decision_lines, decision_text, is_connect as is_connect_of, numbered_line, proxy_line, route_line, route_lines, verdict_lines};
 
 use crate::question::Question;
 use addr_pattern::{Endpoint, write_number};
-use conf_model::{Command, Config, Route, Version, Via};
-use conf_text::Text;
+use conf_types::{Config, Route, Via};
+use lists::Text;
 use rule_list::{Facts, Verdict, first_route, judge};
+use socks_grammar::{Command, Version};
 use std::alloc::{AllocError, Global};
 
 /// Adds a line.
@@ -64,7 +63,7 @@ fn numbered_route(config: &Config, number: u32) -> Option<&Route>
     if number == 0 {
         return None;
     }
-    config.routes.get(number as usize - 1)
+    config.entries().routes.get(number as usize - 1)
 }
 
 /// Adds the line of the route of this number, or of none.
@@ -106,7 +105,6 @@ fn is_connect(command: Command) -> bool
 
 /// Adds the line of the route that a request goes by; only a connection has one.
 fn add_routes(text: &mut Text, config: &Config, facts: &Facts) -> Result<(), AllocError>
-    requires { FitsNumbers config.now }
     ensures { OnOk result (Adds text.old text.new (route_lines config.now facts.now)) }
 {
     if is_connect(facts.command) {
@@ -154,7 +152,6 @@ fn is_pass(verdict: Verdict) -> bool
 
 /// Adds the lines of a decision.
 fn add_decision(text: &mut Text, config: &Config, facts: &Facts) -> Result<(), AllocError>
-    requires { FitsNumbers config.now }
     ensures { OnOk result (Adds text.old text.new (decision_lines config.now facts.now)) }
 {
     let verdict = judge(config, facts);
@@ -171,7 +168,6 @@ fn add_decision(text: &mut Text, config: &Config, facts: &Facts) -> Result<(), A
 /// What a configuration decides on a question, in lines: what the client rules say, then the socks rules where these were
 /// asked, then the route of a connection that may be made, then the verdict. An `AllocError` comes where memory is refused.
 pub fn decide(alloc: Global, config: &Config, question: &Question) -> Result<Text, AllocError>
-    requires { IsConfig config.now }
     ensures { IfOk result (λ text. text ≡ decision_text config.now question.now) }
 {
     let mut text = Text::make(alloc);

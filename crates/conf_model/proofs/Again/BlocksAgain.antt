@@ -13,15 +13,15 @@ use Rattle.conf_model.specs.declared.given.Protocols.{Protocols}
 use Rattle.conf_model.specs.declared.given.Versions.{Versions}
 use Rattle.conf_model.specs.declared.keys.BlockKind.{BlockKind}
 use Rattle.conf_model.specs.declared.keys.EntryKey.{EntryKey}
-use Rattle.conf_model.specs.declared.protocol.Version.{Version}
-use Rattle.conf_model.specs.declared.route.Login.{Login}
-use Rattle.conf_model.specs.declared.route.Route.{Route}
-use Rattle.conf_model.specs.declared.route.Via.{Via}
-use Rattle.conf_model.specs.declared.rule.ClientRule.{ClientRule}
-use Rattle.conf_model.specs.declared.rule.SocksRule.{SocksRule}
+use Rattle.socks_grammar.specs.declared.protocol.Version.{Version}
+use Rattle.socks_grammar.specs.declared.login.Login.{Login}
+use Rattle.conf_types.specs.declared.route.Route.{Route}
+use Rattle.conf_types.specs.declared.route.Via.{Via}
+use Rattle.conf_types.specs.declared.rule.ClientRule.{ClientRule}
+use Rattle.conf_types.specs.declared.rule.SocksRule.{SocksRule}
 use Rattle.conf_model.specs.Blocks.{all_commands, all_methods, all_protocols, all_versions, client_rule, entry_of_key, given_by, is_given, is_there, nothing_given, or_bad, or_else, or_refused, socks_rule, socks_rule_of}
 use Rattle.conf_model.specs.Canonical.{command_words, version_word}
-use Rattle.conf_model.specs.Kept.{IsClientRule, IsMax, IsRoute, IsSocksRule, IsUser, IsVia, MayLogin}
+use Rattle.conf_types.specs.Kept.{IsClientRule, IsMax, IsRoute, IsSocksRule, IsUser, IsVia, MayLogin}
 use Rattle.conf_model.specs.Keys.{allows}
 use Rattle.conf_model.specs.Values.{commands_of, protocols_of, rule_methods_of, versions_of}
 use Rattle.conf_model.proofs.Again.Onto.{EntriesOnto, entries-then}

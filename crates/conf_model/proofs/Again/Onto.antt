@@ -1,6 +1,6 @@
 -- What entries and statements say one after the other.
 use Rattle.std.proofs.Common.{◌≡◌, ℕ, ◌+◌, List, [], ◌∷◌, ◌++◌, Result, Ok, Err, sym, ap, subst, ◌∙◌}
-use Rattle.conf_model.specs.declared.config.Config.{Config}
+use Rattle.conf_types.specs.declared.entries.Entries.{Entries}
 use Rattle.conf_model.specs.declared.fault.ConfFault.{ConfFault}
 use Rattle.conf_model.specs.declared.fault.ConfKind.{ConfKind}
 use Rattle.conf_model.specs.declared.given.Given.{Given}
@@ -26,19 +26,19 @@ entries-then kind g f h [] ys e k = subst (λ (z : Given). EntriesOnto kind z ys
 entries-then kind g f h (i ∷ xs) ys e k = (e.0, e.1, entries-then kind e.0 f h xs ys e.2 k)
 
 -- with these statements a configuration says more, whatever their lines are
-abbrev pub PartOnto : Config → Part → Config → Type 0
+abbrev pub PartOnto : Entries → Part → Entries → Type 0
 PartOnto c p d = (n : ℕ) → statement_onto c (statement_at n p) ≡ Ok d
 
-abbrev pub PartsOnto : Config → List Part → Config → Type 0
+abbrev pub PartsOnto : Entries → List Part → Entries → Type 0
 PartsOnto c [] d = c ≡ d
-PartsOnto c (p ∷ parts) d = (e : Config) × PartOnto c p e × PartsOnto e parts d
+PartsOnto c (p ∷ parts) d = (e : Entries) × PartOnto c p e × PartsOnto e parts d
 
-pub statements-onto : (c : Config) (parts : List Part) (d : Config) (n : ℕ) → PartsOnto c parts d → statements_onto c (statements_at n parts) ≡ Ok d
+pub statements-onto : (c : Entries) (parts : List Part) (d : Entries) (n : ℕ) → PartsOnto c parts d → statements_onto c (statements_at n parts) ≡ Ok d
 statements-onto c [] d n e = ap Ok e
 statements-onto c (p ∷ parts) d n e =
-    ap (λ (z : Result Config ConfFault). elim z [ Ok f ↦ statements_onto f (statements_at (line_behind n p) parts) | Err fault ↦ Err fault ]) (e.1 n)
+    ap (λ (z : Result Entries ConfFault). elim z [ Ok f ↦ statements_onto f (statements_at (line_behind n p) parts) | Err fault ↦ Err fault ]) (e.1 n)
     ∙ statements-onto e.0 parts d (line_behind n p) e.2
 
-pub parts-then : (c d e : Config) (xs ys : List Part) → PartsOnto c xs d → PartsOnto d ys e → PartsOnto c (xs ++ ys) e
-parts-then c d e [] ys h k = subst (λ (z : Config). PartsOnto z ys e) (sym h) k
+pub parts-then : (c d e : Entries) (xs ys : List Part) → PartsOnto c xs d → PartsOnto d ys e → PartsOnto c (xs ++ ys) e
+parts-then c d e [] ys h k = subst (λ (z : Entries). PartsOnto z ys e) (sym h) k
 parts-then c d e (p ∷ xs) ys h k = (h.0, h.1, parts-then h.0 d e xs ys h.2 k)

@@ -9,16 +9,16 @@ use Rattle.addr_pattern.specs.declared.pattern.Pattern.{Pattern}
 use Rattle.addr_pattern.specs.AddressText.{addr_text, number_text}
 use Rattle.addr_pattern.specs.ReadAgain.{IsAddr, IsPattern}
 use Rattle.addr_pattern.proofs.PlainTexts.{plain-addr}
-use Rattle.conf_model.specs.declared.config.Config.{Config}
-use Rattle.conf_model.specs.declared.protocol.Method.{Method}
-use Rattle.conf_model.specs.declared.protocol.Version.{Version}
-use Rattle.conf_model.specs.declared.route.Login.{Login}
-use Rattle.conf_model.specs.declared.route.Route.{Route}
-use Rattle.conf_model.specs.declared.route.Via.{Via}
-use Rattle.conf_model.specs.declared.rule.ClientRule.{ClientRule}
-use Rattle.conf_model.specs.declared.rule.SocksRule.{SocksRule}
+use Rattle.conf_types.specs.declared.entries.Entries.{Entries}
+use Rattle.socks_grammar.specs.declared.protocol.Method.{Method}
+use Rattle.socks_grammar.specs.declared.protocol.Version.{Version}
+use Rattle.socks_grammar.specs.declared.login.Login.{Login}
+use Rattle.conf_types.specs.declared.route.Route.{Route}
+use Rattle.conf_types.specs.declared.route.Via.{Via}
+use Rattle.conf_types.specs.declared.rule.ClientRule.{ClientRule}
+use Rattle.conf_types.specs.declared.rule.SocksRule.{SocksRule}
 use Rattle.conf_model.specs.Canonical.{method_words, version_word, word_if}
-use Rattle.conf_model.specs.Kept.{IsClientRule, IsConfig, IsControl, IsListener, IsMax, IsRoute, IsSocksRule, IsUser, IsVia, MayLogin}
+use Rattle.conf_types.specs.Kept.{IsClientRule, IsConfig, IsControl, IsListener, IsMax, IsRoute, IsSocksRule, IsUser, IsVia, MayLogin}
 use Rattle.conf_text.proofs.Lines.{IsKeyName, IsValue, known_key, known_value}
 use Rattle.conf_text.proofs.Parts.{IsItem, IsPart}
 use Rattle.conf_model.proofs.Again.PlainWords.{host_value, listener_values, login_value, number_value, pattern_values, user_value}
@@ -155,7 +155,7 @@ methods_values [] = tt
 methods_values (Method.NoAuth ∷ methods) = (known_value (codes "none") refl, methods_values methods)
 methods_values (Method.Username ∷ methods) = (known_value (codes "username") refl, methods_values methods)
 
-setting_are : (c : Config) → c.negotiate ≤ 4000000 → c.io ≤ 4000000 → AllByRecursion IsPart (setting_parts c)
+setting_are : (c : Entries) → c.negotiate ≤ 4000000 → c.io ≤ 4000000 → AllByRecursion IsPart (setting_parts c)
 setting_are c h k = (
   is_item (codes "socksmethod") _ (known_key (codes "socksmethod") refl) (methods_values c.methods),
   (
@@ -164,7 +164,7 @@ setting_are c h k = (
   ),
 )
 
-pub parts_are : (c : Config) → IsConfig c → AllByRecursion IsPart (config_parts c)
+pub parts_are : (c : Entries) → IsConfig c → AllByRecursion IsPart (config_parts c)
 parts_are c h =
     both IsPart (map internal_part c.internals) _ (each_map IsListener IsPart internal_part internal_is c.internals (each IsListener c.internals h.internals))
     (both IsPart (map external_part c.externals) _ (each_map IsAddr IsPart external_part external_is c.externals (each IsAddr c.externals h.externals))

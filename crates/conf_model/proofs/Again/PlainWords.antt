@@ -18,12 +18,11 @@ use Rattle.addr_pattern.specs.ReadAgain.{IsEndpoint, IsPattern, IsPlainText, IsP
 use Rattle.addr_pattern.proofs.Bytes.{all-append, all-wider}
 use Rattle.addr_pattern.proofs.Inverse.{digits-number, number-inverse}
 use Rattle.addr_pattern.proofs.PlainTexts.{plain-addr, plain-host-text}
-use Rattle.conf_text.specs.Words.{is_key, is_name, is_name_byte, is_readable, is_some_text}
+use Rattle.conf_text.specs.Words.{is_key, is_name, is_key_byte, is_readable, is_some_text}
 use Rattle.conf_text.specs.Tokens.{is_word_byte}
 use Rattle.conf_text.proofs.Keys.{no_key, no_name, other_end}
-use Rattle.conf_model.specs.declared.route.Login.{Login}
-use Rattle.conf_model.specs.Kept.{IsLogin, IsUser, is_plain_byte}
-use Rattle.conf_model.specs.Values.{is_name as is_login_name, is_readable as is_readable_name}
+use Rattle.socks_grammar.specs.declared.login.Login.{Login}
+use Rattle.conf_types.specs.Kept.{IsLogin, IsUser, is_name as is_login_name, is_plain_byte, is_readable as is_readable_name}
 use Rattle.conf_text.proofs.Lines.{IsValue, known_value}
 use Rattle.conf_model.proofs.Again.Spelled.{listener_words, operator_words, pattern_words, port_words}
 
@@ -65,14 +64,14 @@ has_last [] h = absurd (true≢false (sym h))
 has_last (b ∷ []) h = ([], b, refl)
 has_last (b ∷ c ∷ text) h = let r = has_last (c ∷ text) refl in (b ∷ r.0, r.1, ap (λ (z : List ℕ). b ∷ z) r.2)
 
-colon_by : (b : ℕ) (text : List ℕ) (v : Bool) → (b == 58) ≡ v → list_any (λ b. b == 58) (b ∷ text) ≡ true → (list_any (λ b. b == 58) text ≡ true → list_all is_name_byte text ≡ false) →
-    list_all is_name_byte (b ∷ text) ≡ false
-colon_by b text true e h more = let q : b ≡ 58 = grind (arith, nat_tests) in ap (λ (z : ℕ). list_all is_name_byte (z ∷ text)) q
+colon_by : (b : ℕ) (text : List ℕ) (v : Bool) → (b == 58) ≡ v → list_any (λ b. b == 58) (b ∷ text) ≡ true → (list_any (λ b. b == 58) text ≡ true → list_all is_key_byte text ≡ false) →
+    list_all is_key_byte (b ∷ text) ≡ false
+colon_by b text true e h more = let q : b ≡ 58 = grind (arith, nat_tests) in ap (λ (z : ℕ). list_all is_key_byte (z ∷ text)) q
 colon_by b text false e h more =
     let q : list_any (λ b. b == 58) text ≡ true = subst (λ v. (v || list_any (λ b. b == 58) text) ≡ true) e h in
-    ap (λ v. is_name_byte b && v) (more q) ∙ and-false (is_name_byte b)
+    ap (λ v. is_key_byte b && v) (more q) ∙ and-false (is_key_byte b)
 
-colon_behind : (text : List ℕ) → list_any (λ b. b == 58) text ≡ true → list_all is_name_byte text ≡ false
+colon_behind : (text : List ℕ) → list_any (λ b. b == 58) text ≡ true → list_all is_key_byte text ≡ false
 colon_behind [] h = absurd (true≢false (sym h))
 colon_behind (b ∷ text) h = colon_by b text (b == 58) refl h (colon_behind text)
 

@@ -1,8 +1,8 @@
 -- Sets of words are read again.
 use Rattle.std.proofs.Common.{◌≡◌, Bool, true, false, true≢false, ◌||◌, List, [], ◌∷◌, ◌++◌, codes, Some, Ok, refl, sym}
-use Rattle.conf_model.specs.declared.protocol.Method.{Method}
+use Rattle.socks_grammar.specs.declared.protocol.Method.{Method}
 use Rattle.conf_model.specs.Canonical.{method_words, word_if}
-use Rattle.conf_model.specs.Kept.{AreMethods}
+use Rattle.conf_types.specs.Kept.{AreMethods}
 use Rattle.conf_model.specs.Values.{commands_of, methods_of, protocols_of, rule_methods_of, versions_of}
 
 pub two_protocols : (a b : Bool) → (a || b) ≡ true → protocols_of (word_if a (codes "tcp") ++ word_if b (codes "udp")) ≡ Some (record { tcp = a; udp = b })

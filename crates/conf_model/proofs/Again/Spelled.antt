@@ -9,12 +9,12 @@ use Rattle.addr_pattern.specs.declared.pattern.Pattern.{Pattern}
 use Rattle.addr_pattern.specs.declared.pattern.PortTest.{PortTest}
 use Rattle.addr_pattern.specs.AddressText.{addr_text, number_text}
 use Rattle.addr_pattern.specs.PatternText.{host_text, pattern_text, port_text}
-use Rattle.conf_model.specs.declared.config.Config.{Config}
-use Rattle.conf_model.specs.declared.route.Login.{Login}
-use Rattle.conf_model.specs.declared.route.Route.{Route}
-use Rattle.conf_model.specs.declared.route.Via.{Via}
-use Rattle.conf_model.specs.declared.rule.ClientRule.{ClientRule}
-use Rattle.conf_model.specs.declared.rule.SocksRule.{SocksRule}
+use Rattle.conf_types.specs.declared.entries.Entries.{Entries}
+use Rattle.socks_grammar.specs.declared.login.Login.{Login}
+use Rattle.conf_types.specs.declared.route.Route.{Route}
+use Rattle.conf_types.specs.declared.route.Via.{Via}
+use Rattle.conf_types.specs.declared.rule.ClientRule.{ClientRule}
+use Rattle.conf_types.specs.declared.rule.SocksRule.{SocksRule}
 use Rattle.conf_model.specs.Canonical.{block, client_lines, command_lines, command_words, config_lines, control_lines, external_line, entry, internal_line, listener, login_lines, max_lines, method_lines, method_words, pattern_lines, protocol_lines, route_lines, set_lines, socks_lines, user_lines, version_lines, version_word, via_lines, word_if}
 use Rattle.conf_text.proofs.Parts.{Block, Item, Part, Top, inner_line, lines_of, part_lines}
 
@@ -48,7 +48,7 @@ abbrev pub control_parts : Option Endpoint → List Part
 control_parts None = []
 control_parts (Some e) = Top (item (codes "control") (listener_words e)) ∷ []
 
-abbrev pub setting_parts : Config → List Part
+abbrev pub setting_parts : Entries → List Part
 setting_parts c =
     Top (item (codes "socksmethod") (method_words c.methods))
     ∷ Top (item (codes "timeout.negotiate") (number_text c.negotiate ∷ []))
@@ -120,7 +120,7 @@ internal_part e = Top (item (codes "internal") (listener_words e))
 abbrev pub external_part : Addr → Part
 external_part a = Top (item (codes "external") (addr_text a ∷ []))
 
-abbrev pub config_parts : Config → List Part
+abbrev pub config_parts : Entries → List Part
 config_parts c =
     map internal_part c.internals
     ++ (map external_part c.externals
@@ -232,7 +232,7 @@ ones_spelled part line h (x ∷ xs) =
     let b : lines_of (map part xs) ≡ map line xs = ones_spelled part line h xs in
     ap (λ (z : List (List ℕ)). z ++ lines_of (map part xs)) a ∙ cc
 
-pub config_spelled : (c : Config) → lines_of (config_parts c) ≡ config_lines c
+pub config_spelled : (c : Entries) → lines_of (config_parts c) ≡ config_lines c
 config_spelled c =
     then_spelled (map internal_part c.internals) _ _ _ (ones_spelled internal_part internal_line (λ e. ap (λ (z : List ℕ). entry (codes "internal") z ∷ []) (listener_joined e)) c.internals)
     (then_spelled (map external_part c.externals) _ _ _ (ones_spelled external_part external_line (λ a. refl) c.externals)

@@ -21,9 +21,9 @@ use Rattle.addr_pattern.proofs.Inverse.{digits-number, number-inverse}
 use Rattle.addr_pattern.proofs.ReadAddresses.{addr-inverse, bytes-ipv4, colon-ipv6}
 use Rattle.addr_pattern.proofs.ReadPatterns.{pattern-inverse}
 use Rattle.conf_model.specs.declared.given.Hop.{Hop}
-use Rattle.conf_model.specs.declared.route.Login.{Login}
-use Rattle.conf_model.specs.Kept.{IsLogin, IsUser}
-use Rattle.conf_model.specs.Values.{address_of, at_port, endpoint_of, hop_at, hop_of, is_interface, is_name, is_readable, login_of, login_parts, login_with, number_of, pattern_of, readable, users_of}
+use Rattle.socks_grammar.specs.declared.login.Login.{Login}
+use Rattle.conf_types.specs.Kept.{IsLogin, IsUser, is_name, is_readable}
+use Rattle.conf_model.specs.Values.{address_of, at_port, endpoint_of, hop_at, hop_of, is_interface, login_of, login_parts, login_with, number_of, pattern_of, readable, users_of}
 use Rattle.conf_model.proofs.Again.Spelled.{listener_words, pattern_joined, pattern_words}
 
 pub pattern-again : (p : Pattern) → IsPattern p → pattern_of (pattern_words p) ≡ Some p

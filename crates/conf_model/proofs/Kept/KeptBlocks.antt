@@ -11,10 +11,10 @@ use Rattle.conf_model.specs.declared.given.Given.{Given}
 use Rattle.conf_model.specs.declared.given.Hop.{Hop}
 use Rattle.conf_model.specs.declared.keys.BlockKind.{BlockKind}
 use Rattle.conf_model.specs.declared.keys.EntryKey.{EntryKey}
-use Rattle.conf_model.specs.declared.protocol.Version.{Version}
-use Rattle.conf_model.specs.declared.route.Login.{Login}
+use Rattle.socks_grammar.specs.declared.protocol.Version.{Version}
+use Rattle.socks_grammar.specs.declared.login.Login.{Login}
 use Rattle.conf_model.specs.Blocks.{all_commands, all_methods, all_protocols, all_versions, any, at_line, client_rule, entries_onto, entry_of_key, entry_onto, given_by, is_given, nothing_given, or_bad, or_else, or_refused, route, socks_rule, version_of, via_at}
-use Rattle.conf_model.specs.Kept.{IsClientRule, IsLogin, IsMax, IsRoute, IsSocksRule, IsVia, MayLogin}
+use Rattle.conf_types.specs.Kept.{IsClientRule, IsLogin, IsMax, IsRoute, IsSocksRule, IsVia, MayLogin}
 use Rattle.conf_model.specs.Keys.{allows, entry_key}
 use Rattle.conf_model.specs.Values.{client_methods_fault, commands_of, hop_of, login_of, number_of, pattern_of, protocols_of, rule_methods_of, unless_fault, users_of, versions_of}
 use Rattle.conf_model.proofs.Kept.KeptValues.{AreUsers, HasCommand, HasMethod, HasProtocol, HasVersion, IsHop, commands_kept, hop_kept, login_kept, number_kept, pattern_kept, protocols_kept, rule_methods_kept, users_kept, versions_kept}

@@ -10,21 +10,21 @@ use Rattle.addr_pattern.specs.ReadAgain.{IsAddr, IsEndpoint}
 use Rattle.conf_text.specs.declared.statement.Entry.{Entry}
 use Rattle.conf_text.specs.declared.statement.Statement.{Statement}
 use Rattle.conf_text.proofs.PlainValues.{IsPlainBlock, IsPlainStatement, are_plain}
-use Rattle.conf_model.specs.declared.config.Config.{Config}
+use Rattle.conf_types.specs.declared.entries.Entries.{Entries}
 use Rattle.conf_model.specs.declared.fault.ConfFault.{ConfFault}
 use Rattle.conf_model.specs.declared.fault.ConfKind.{ConfKind}
 use Rattle.conf_model.specs.declared.given.Given.{Given}
 use Rattle.conf_model.specs.declared.given.Hop.{Hop}
 use Rattle.conf_model.specs.declared.keys.BlockKind.{BlockKind}
 use Rattle.conf_model.specs.declared.keys.TopKey.{TopKey}
-use Rattle.conf_model.specs.declared.protocol.Method.{Method}
+use Rattle.socks_grammar.specs.declared.protocol.Method.{Method}
 use Rattle.conf_model.specs.declared.setting.Setting.{Setting}
 use Rattle.conf_model.specs.Blocks.{entries_onto, is_kept, nothing_given, route}
-use Rattle.conf_model.specs.Kept.{AreMethods, IsClientRule, IsConfig, IsControl, IsListener, IsRoute, IsSocksRule}
+use Rattle.conf_types.specs.Kept.{AreMethods, IsClientRule, IsConfig, IsControl, IsListener, IsRoute, IsSocksRule, is_loopback}
 use Rattle.conf_model.specs.Keys.{block_kind, top_key}
 use Rattle.conf_model.specs.Reads.{IsConfigText, OnConfig}
 use Rattle.conf_model.specs.Settings.{block_of_kind, block_setting, default, given_setting, listening, listens, methods, on_loopback, or_bad, or_too_many, route_setting, said, seconds_of, set, setting_of, statement_onto, statements_onto, top_setting, whole, with_setting, within}
-use Rattle.conf_model.specs.Values.{address_of, client_methods_fault, endpoint_of, is_empty, is_interface, is_loopback, methods_of, unless_fault}
+use Rattle.conf_model.specs.Values.{address_of, client_methods_fault, endpoint_of, is_empty, is_interface, methods_of, unless_fault}
 use Rattle.conf_model.proofs.Kept.KeptBlocks.{IsGiven, client_kept, entries_kept, line_kept, nothing_kept, route_kept, socks_kept}
 use Rattle.conf_model.proofs.Kept.KeptValues.{IsHop, address_kept, endpoint_kept, methods_kept, number_kept}
 
@@ -125,7 +125,7 @@ record AreFew {A : Type 0} (limit : ℕ) (P : A → Type 0) (xs : List A) : Type
   pub all : All P xs
 
 -- what may come before the first endpoint to listen on
-record IsBegun (c : Config) : Type 0 where
+record IsBegun (c : Entries) : Type 0 where
   pub internals : AreFew 16 IsListener c.internals
   pub externals : AreFew 16 IsAddr c.externals
   pub control : IsControl c.control
@@ -136,7 +136,7 @@ record IsBegun (c : Config) : Type 0 where
   pub socks : AreFew 4096 IsSocksRule c.socks
   pub routes : AreFew 256 IsRoute c.routes
 
-within_kept : {A : Type 0} (limit : ℕ) (xs : List A) (c : Config) → (length xs < limit → IsBegun c) → IfSome (within limit xs c) IsBegun
+within_kept : {A : Type 0} (limit : ℕ) (xs : List A) (c : Entries) → (length xs < limit → IsBegun c) → IfSome (within limit xs c) IsBegun
 within_kept limit xs c h = elim (nat_lt (length xs) limit) as (λ t. nat_lt (length xs) limit ≡ t → IfSome (cond t (Some c) None) IsBegun) [
   | true ↦ λ e. h (ltb-true (length xs) limit e)
   | false ↦ λ e. tt
@@ -145,7 +145,7 @@ within_kept limit xs c h = elim (nat_lt (length xs) limit) as (λ t. nat_lt (len
 grown_kept : {A : Type 0} (limit : ℕ) (P : A → Type 0) (xs : List A) (x : A) → length xs < limit → AreFew limit P xs → P x → AreFew limit P (xs ++ x ∷ [])
 grown_kept limit P xs x few h k = record { few = rw (length-append xs (x ∷ [])) (omega (arith, few)); all = All-push P xs x h.all k }
 
-set_kept : (c : Config) (s : Setting) → IsBegun c → IsSetting s → IfSome (set c s) IsBegun
+set_kept : (c : Entries) (s : Setting) → IsBegun c → IsSetting s → IfSome (set c s) IsBegun
 set_kept c (Setting.Internal e) h k = within_kept 16 c.internals _ (λ few. record { internals = grown_kept 16 IsListener c.internals e few h.internals k; externals = h.externals; control = h.control; methods = h.methods; negotiate = h.negotiate; io = h.io; client = h.client; socks = h.socks; routes = h.routes })
 set_kept c (Setting.External a) h k = within_kept 16 c.externals _ (λ few. record { internals = h.internals; externals = grown_kept 16 IsAddr c.externals a few h.externals k; control = h.control; methods = h.methods; negotiate = h.negotiate; io = h.io; client = h.client; socks = h.socks; routes = h.routes })
 set_kept c (Setting.Control e) h k = record { internals = h.internals; externals = h.externals; control = k; methods = h.methods; negotiate = h.negotiate; io = h.io; client = h.client; socks = h.socks; routes = h.routes }
@@ -157,20 +157,20 @@ set_kept c (Setting.Socks rule) h k = within_kept 4096 c.socks _ (λ few. record
 set_kept c (Setting.Route r) h k = within_kept 256 c.routes _ (λ few. record { internals = h.internals; externals = h.externals; control = h.control; methods = h.methods; negotiate = h.negotiate; io = h.io; client = h.client; socks = h.socks; routes = grown_kept 256 IsRoute c.routes r few h.routes k })
 set_kept c Setting.NoEffect h k = h
 
-too_many_kept : (line : ℕ) (o : Option Config) → IfSome o IsBegun → IfOk (or_too_many line o) IsBegun
+too_many_kept : (line : ℕ) (o : Option Entries) → IfSome o IsBegun → IfOk (or_too_many line o) IsBegun
 too_many_kept line None h = tt
 too_many_kept line (Some c) h = h
 
-with_kept : (c : Config) (line : ℕ) (r : Result Setting ConfFault) → IsBegun c → IfOk r IsSetting → IfOk (with_setting c line r) IsBegun
+with_kept : (c : Entries) (line : ℕ) (r : Result Setting ConfFault) → IsBegun c → IfOk r IsSetting → IfOk (with_setting c line r) IsBegun
 with_kept c line (Err fault) h k = tt
 with_kept c line (Ok s) h k = too_many_kept line (set c s) (set_kept c s h k)
 
-then_kept : (ss : List Statement) (r : Result Config ConfFault) → IfOk r IsBegun → ((d : Config) → IsBegun d → IfOk (statements_onto d ss) IsBegun) →
+then_kept : (ss : List Statement) (r : Result Entries ConfFault) → IfOk r IsBegun → ((d : Entries) → IsBegun d → IfOk (statements_onto d ss) IsBegun) →
     IfOk (elim r [ Ok d ↦ statements_onto d ss | Err fault ↦ Err fault ]) IsBegun
 then_kept ss (Ok d) h more = more d h
 then_kept ss (Err fault) h more = tt
 
-statements_kept : (c : Config) (ss : List Statement) → IsBegun c → AllByRecursion IsPlainStatement ss → IfOk (statements_onto c ss) IsBegun
+statements_kept : (c : Entries) (ss : List Statement) → IsBegun c → AllByRecursion IsPlainStatement ss → IfOk (statements_onto c ss) IsBegun
 statements_kept c [] h plain = h
 statements_kept c (s ∷ ss) h plain =
     then_kept ss (statement_onto c s) (with_kept c s.line (setting_of s) h (said_kept s.line s.key s.values s.block plain.0.1))
@@ -194,7 +194,7 @@ default_kept = record {
 
 -- ---- the whole
 
-whole_config : (c : Config) → IsBegun c → 0 < length c.internals → IsConfig c
+whole_config : (c : Entries) → IsBegun c → 0 < length c.internals → IsConfig c
 whole_config c h some = record {
   some_internal = some;
   few_internals = h.internals.few;
@@ -213,19 +213,19 @@ whole_config c h some = record {
   routes = h.routes.all;
 }
 
-listens_kept : (c : Config) (es : List Endpoint) → (0 < length es → IsConfig c) → IfOk (listens c es) IsConfig
+listens_kept : (c : Entries) (es : List Endpoint) → (0 < length es → IsConfig c) → IfOk (listens c es) IsConfig
 listens_kept c [] h = tt
 listens_kept c (e ∷ es) h = h (omega arith)
 
-whole_kept : (r : Result Config ConfFault) → IfOk r IsBegun → IfOk (whole r) IsConfig
+whole_kept : (r : Result Entries ConfFault) → IfOk r IsBegun → IfOk (whole r) IsConfig
 whole_kept (Err fault) h = tt
 whole_kept (Ok c) h = listens_kept c c.internals (whole_config c h)
 
-pub read-kept : (text : List ℕ) (c : Config) → IsConfigText text c → IsConfig c
+pub read-kept : (text : List ℕ) (c : Entries) → IsConfigText text c → IsConfig c
 read-kept text c h =
-    subst (λ (r : Result Config ConfFault). IfOk r IsConfig) h.say
+    subst (λ (r : Result Entries ConfFault). IfOk r IsConfig) h.say
     (whole_kept (statements_onto default h.statements) (statements_kept default h.statements default_kept (are_plain text h.statements h.are)))
 
-pub answer-kept : (text : List ℕ) (r : Result Config ConfFault) → OnConfig text r → IfOk r IsConfig
+pub answer-kept : (text : List ℕ) (r : Result Entries ConfFault) → OnConfig text r → IfOk r IsConfig
 answer-kept text (Ok c) h = read-kept text c h
 answer-kept text (Err fault) h = tt

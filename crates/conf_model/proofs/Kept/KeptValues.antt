@@ -21,10 +21,10 @@ use Rattle.conf_model.specs.declared.given.Hop.{Hop}
 use Rattle.conf_model.specs.declared.given.Methods.{Methods}
 use Rattle.conf_model.specs.declared.given.Protocols.{Protocols}
 use Rattle.conf_model.specs.declared.given.Versions.{Versions}
-use Rattle.conf_model.specs.declared.protocol.Method.{Method}
-use Rattle.conf_model.specs.Equal.{method_eq}
-use Rattle.conf_model.specs.Kept.{AreMethods, IsLogin, IsUser, is_plain_byte}
-use Rattle.conf_model.specs.Values.{address_of, are_all, at_port, commands_of, endpoint_of, has, hop_at, hop_of, is_command, is_direct, is_method, is_name, is_protocol, is_readable, is_version, joined, login_of, login_parts, login_with, method_fault, method_word, methods_of, number_of, pattern_of, protocols_of, readable, refusal_of, rule_methods_of, unless_fault, users_of, versions_of, with_method}
+use Rattle.socks_grammar.specs.declared.protocol.Method.{Method}
+use Rattle.socks_grammar.specs.Equal.{method_eq}
+use Rattle.conf_types.specs.Kept.{AreMethods, IsLogin, IsUser, is_name, is_plain_byte, is_readable}
+use Rattle.conf_model.specs.Values.{address_of, are_all, at_port, commands_of, endpoint_of, has, hop_at, hop_of, is_command, is_direct, is_method, is_protocol, is_version, joined, login_of, login_parts, login_with, method_fault, method_word, methods_of, number_of, pattern_of, protocols_of, readable, refusal_of, rule_methods_of, unless_fault, users_of, versions_of, with_method}
 
 some_by : {A : Type 0} (P : A → Type 0) (o : Option A) → ((a : A) → o ≡ Some a → P a) → IfSome o P
 some_by P None h = tt

@@ -1,6 +1,6 @@
 use Rattle.std.proofs.Common.{◌≡◌, true, take}
 use Rattle.std.specs.List.{list_all}
-use Rattle.conf_model.specs.Values.{is_name as is_name_of}
+use Rattle.conf_types.specs.Kept.{is_name as is_name_of}
 use Rattle.conf_model.proofs.values.names.Given as goal
 
 abbrev pub invariant-loop-value : goal.invariant-loop-value

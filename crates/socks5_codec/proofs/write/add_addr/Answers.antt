@@ -1,5 +1,5 @@
 use Rattle.std.proofs.Common.{ℕ, List, [], ◌∷◌, ◌++◌, append_assoc, sym, ap, ◌∙◌}
-use Rattle.conf_model.specs.Grammar.{spelled_addr}
+use Rattle.socks_grammar.specs.Grammar.{spelled_addr}
 use Rattle.socks5_codec.proofs.write.add_addr.Goals as goal
 
 pub returns-in-V6-clause-added : goal.returns-in-V6-clause-added
