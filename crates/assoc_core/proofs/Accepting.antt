@@ -1,8 +1,8 @@
 -- The turn in which a client is let in or refused.
 use Rattle.std.proofs.Common.{◌≡◌, ℕ, Bool, true, false, Option, Some, None, List, [], ◌∷◌, ◌++◌, refl, sym, ap, subst, ◌∙◌, ◌-◌, length, slice_set}
 use Rattle.addr_pattern.specs.declared.endpoint.Endpoint.{Endpoint}
-use Rattle.conf_model.specs.declared.config.Config.{Config}
-use Rattle.conf_model.specs.declared.user.User.{User}
+use Rattle.conf_types.specs.declared.entries.Entries.{Entries}
+use Rattle.socks_grammar.specs.declared.user.User.{User}
 use Rattle.net_ends.specs.Counts.{Counts}
 use Rattle.net_ends.specs.Nets.{NetTold}
 use Rattle.net_ends.specs.Told.{Told}
@@ -68,7 +68,7 @@ refused_of h marks cap line logged = refusal_said (said_of h marks cap line logg
 behind-desk : Context → TurnEvent → Record → OpenLine → Desked Said → Option Cause → Option TurnResult
 behind-desk s ev r line d refused = after_call s ev r (record { left = decided (Decision.Opened line.generation line.rule refused) refused r; h = d.h; marks = d.marks })
 
-opens-none : (users : List User) (pubs : List Config) (generation : ℕ) (config : Config) (cap : ℕ) (h : List Line) (marks : List StopBy) (now worker number : ℕ) (peer local : Endpoint) (logged : Bool)
+opens-none : (users : List User) (pubs : List Entries) (generation : ℕ) (config : Entries) (cap : ℕ) (h : List Line) (marks : List StopBy) (now worker number : ℕ) (peer local : Endpoint) (logged : Bool)
     → refused_of h marks cap (client_line generation config (fresh number peer local now)) logged ≡ None
     → turn (context users pubs generation config cap h marks) (event_of worker number now (opening logged) NextMark.Again) (fresh number peer local now)
     ≡ Some (record {
@@ -86,7 +86,7 @@ opens-none users pubs generation config cap h marks now worker number peer local
     line : OpenLine
     line = client_line generation config (fresh number peer local now)
 
-opens-some : (users : List User) (pubs : List Config) (generation : ℕ) (config : Config) (cap : ℕ) (h : List Line) (marks : List StopBy) (now worker number : ℕ) (peer local : Endpoint) (logged : Bool) (cause : Cause)
+opens-some : (users : List User) (pubs : List Entries) (generation : ℕ) (config : Entries) (cap : ℕ) (h : List Line) (marks : List StopBy) (now worker number : ℕ) (peer local : Endpoint) (logged : Bool) (cause : Cause)
     → refused_of h marks cap (client_line generation config (fresh number peer local now)) logged ≡ Some cause
     → turn (context users pubs generation config cap h marks) (event_of worker number now (opening logged) NextMark.Done) (fresh number peer local now)
     ≡ Some (record {
@@ -121,7 +121,7 @@ no-target-yet told r target none h decision x is =
     }) h
 
 fresh-turns : {L : Type 0} (told : L → Told) (counts : L → Counts) (stands : List Line → List StopBy → Type 0)
-    (users : List User) (pubs : List Config) (generation : ℕ) (config : Config) (cap : ℕ) (h : List Line) (marks : List StopBy) (now : ℕ) (net : NetTold) (a : Assoc L)
+    (users : List User) (pubs : List Entries) (generation : ℕ) (config : Entries) (cap : ℕ) (h : List Line) (marks : List StopBy) (now : ℕ) (net : NetTold) (a : Assoc L)
     (number : ℕ) (peer local : Endpoint) (logged : Bool) (refused : Option Cause)
     → refused_of h marks cap (client_line generation config (fresh number peer local now)) logged ≡ refused
     → stands (said_of h marks cap (client_line generation config (fresh number peer local now)) logged).h (said_of h marks cap (client_line generation config (fresh number peer local now)) logged).marks
@@ -251,7 +251,7 @@ unbegun users r [] e h = h
 unbegun users r (d ∷ ds) e h = absurd (cc)
 
 pub accepts : {L : Type 0} (told : L → Told) (counts : L → Counts) (stands : List Line → List StopBy → Type 0)
-    (users : List User) (pubs : List Config) (generation : ℕ) (config : Config) (cap : ℕ) (h : List Line) (marks : List StopBy) (now : ℕ) (net : NetTold) (a : Assoc L)
+    (users : List User) (pubs : List Entries) (generation : ℕ) (config : Entries) (cap : ℕ) (h : List Line) (marks : List StopBy) (now : ℕ) (net : NetTold) (a : Assoc L)
     (logged : Bool) (refused : Option Cause)
     → refused_of h marks cap (client_line generation config a.state) logged ≡ refused
     → stands (said_of h marks cap (client_line generation config a.state) logged).h (said_of h marks cap (client_line generation config a.state) logged).marks
@@ -272,7 +272,7 @@ placed : (before pushed after : List Decision) (x y : Decision) → before ≡ [
 placed before pushed after x y none e1 e2 =
     e2 ∙ (ap (λ p. slice_set p (length p - 1) y) (e1 ∙ ap (λ b. b ++ x ∷ []) none) ∙ ap (λ b. b ++ y ∷ []) (sym none))
 
-pub record Asked (stands : List Line → List StopBy → Type 0) (generation : ℕ) (config : Config) (cap : ℕ) (h : List Line) (marks : List StopBy)
+pub record Asked (stands : List Line → List StopBy → Type 0) (generation : ℕ) (config : Entries) (cap : ℕ) (h : List Line) (marks : List StopBy)
     (r : Record) (line : OpenLine) (said : Said) (refused : Option Cause) (pushed after : List Decision) (cause : Option Cause) : Type 0 where
   pub line' : line ≡ client_line generation config r
   pub desk : Opens stands h marks cap line said
@@ -282,7 +282,7 @@ pub record Asked (stands : List Line → List StopBy → Type 0) (generation : �
   pub cause' : cause ≡ first_cause refused r.cause
 
 pub lets-in : {L : Type 0} (told : L → Told) (counts : L → Counts) (stands : List Line → List StopBy → Type 0)
-    (users : List User) (pubs : List Config) (generation : ℕ) (config : Config) (cap : ℕ) (h : List Line) (marks : List StopBy) (now : ℕ) (net : NetTold) (a : Assoc L)
+    (users : List User) (pubs : List Entries) (generation : ℕ) (config : Entries) (cap : ℕ) (h : List Line) (marks : List StopBy) (now : ℕ) (net : NetTold) (a : Assoc L)
     (line : OpenLine) (said : Said) (refused : Option Cause) (pushed after : List Decision) (cause : Option Cause)
     → Asked stands generation config cap h marks a.state line said refused pushed after cause → refused ≡ None
     → Stands told (socks users pubs) a → (a.state).since ≡ now → (a.state).decisions ≡ []
@@ -307,7 +307,7 @@ lets-in told counts stands users pubs generation config cap h marks now net a li
     cause' = k.cause' ∙ ap (λ z. first_cause z (a.state).cause) none
 
 pub refuses-in : {L : Type 0} (told : L → Told) (counts : L → Counts) (stands : List Line → List StopBy → Type 0)
-    (users : List User) (pubs : List Config) (generation : ℕ) (config : Config) (cap : ℕ) (h : List Line) (marks : List StopBy) (now : ℕ) (net : NetTold) (a : Assoc L)
+    (users : List User) (pubs : List Entries) (generation : ℕ) (config : Entries) (cap : ℕ) (h : List Line) (marks : List StopBy) (now : ℕ) (net : NetTold) (a : Assoc L)
     (line : OpenLine) (said : Said) (refused : Option Cause) (pushed after : List Decision) (cause : Option Cause) (why : Cause) (ended : Ended L)
     → Asked stands generation config cap h marks a.state line said refused pushed after cause → refused ≡ Some why
     → ended ≡ ended_with a (let r = a.state in record r { decisions = after; cause = cause; done = true })

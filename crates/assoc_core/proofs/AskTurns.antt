@@ -2,8 +2,8 @@
 use Rattle.std.proofs.Common.{◌≡◌, ℕ, ◌<◌, Bool, true, false, ◌&&◌, ◌||◌, not, if◌then◌else◌, Option, Some, None, List, [], ◌++◌, length, drop, refl, sym, ap, subst, ◌∙◌, inr, is_some}
 use mathlib.Core.List.{IsPrefix}
 use Rattle.addr_pattern.specs.declared.endpoint.Endpoint.{Endpoint}
-use Rattle.conf_model.specs.declared.protocol.Version.{Version}
-use Rattle.conf_model.specs.Handshake.{Request, Split, version_of}
+use Rattle.socks_grammar.specs.declared.protocol.Version.{Version}
+use Rattle.socks_grammar.specs.Handshake.{Request, Split, version_of}
 use Rattle.net_ends.specs.Counts.{Counts, Later, Rose}
 use Rattle.net_ends.specs.Faults.{Tried}
 use Rattle.net_ends.specs.Nets.{NetTold}

@@ -4,9 +4,9 @@ use Rattle.std.proofs.lemmas.List.{append-nil}
 use mathlib.Core.List.{IsPrefix}
 use Rattle.addr_pattern.specs.declared.addr.Addr.{Addr}
 use Rattle.addr_pattern.specs.declared.host.Host.{Host}
-use Rattle.conf_model.specs.declared.config.Config.{Config}
-use Rattle.conf_model.specs.declared.user.User.{User}
-use Rattle.conf_model.specs.Handshake.{Request, Split}
+use Rattle.conf_types.specs.declared.entries.Entries.{Entries}
+use Rattle.socks_grammar.specs.declared.user.User.{User}
+use Rattle.socks_grammar.specs.Handshake.{Request, Split}
 use Rattle.net_ends.specs.Counts.{Counts}
 use Rattle.net_ends.specs.Nets.{NetTold}
 use Rattle.net_ends.specs.Told.{Told, more}
@@ -88,7 +88,7 @@ meets-seeking t q len name whole named = record {
   unread_t = refl;
 }
 
-pub arrives-heard : {L : Type 0} (told : L → Told) (counts : L → Counts) (users : List User) (pubs : List Config) (generation : ℕ) (config : Config) (most : ℕ) (h : List Line) (marks : List StopBy)
+pub arrives-heard : {L : Type 0} (told : L → Told) (counts : L → Counts) (users : List User) (pubs : List Entries) (generation : ℕ) (config : Entries) (most : ℕ) (h : List Line) (marks : List StopBy)
     (a b : Assoc L) (request : RequestIs) (k : HasHeard told counts (socks users pubs) generation config a b None (HasAsked request)) (x : Asked)
     → x.said ≡ speaking (hearing_of told counts users pubs generation config most h marks a b (HasAsked request) k) → Arrives told counts x a b.client
 arrives-heard told counts users pubs generation config most h marks a b request k x is = record {
@@ -101,7 +101,7 @@ arrives-heard told counts users pubs generation config most h marks a b request 
 
 -- ---- where a name was looked up
 
-abbrev pub found_saying : {L : Type 0} (told : L → Told) (counts : L → Counts) (users : List User) (pubs : List Config) (generation : ℕ) (config : Config) (most : ℕ) (h : List Line) (marks : List StopBy)
+abbrev pub found_saying : {L : Type 0} (told : L → Told) (counts : L → Counts) (users : List User) (pubs : List Entries) (generation : ℕ) (config : Entries) (most : ℕ) (h : List Line) (marks : List StopBy)
     (a b : Assoc L) (l : Sought) (request : RequestIs) → HasHeard told counts (socks users pubs) generation config a b (Some l) (HasAsked request) → Speaking
 found_saying told counts users pubs generation config most h marks a b l request k = record {
   users = users;
@@ -122,7 +122,7 @@ found_saying told counts users pubs generation config most h marks a b l request
 looked-of : (users : List User) (r : Record) (ds : List Decision) (g : ℕ) (rule : Option ℕ) (l : Sought) → ds ≡ Decision.Opened g rule None ∷ Decision.Looked l.name (Some l.addr) ∷ [] → HasDecided users r ds → LookedUp users r l.name (Some l.addr)
 looked-of users r ds g rule l is h = subst (HasDecided users r) is h
 
-pub found-before : {L : Type 0} (told : L → Told) (counts : L → Counts) (users : List User) (pubs : List Config) (generation : ℕ) (config : Config) (most : ℕ) (h : List Line) (marks : List StopBy)
+pub found-before : {L : Type 0} (told : L → Told) (counts : L → Counts) (users : List User) (pubs : List Entries) (generation : ℕ) (config : Entries) (most : ℕ) (h : List Line) (marks : List StopBy)
     (a b : Assoc L) (l : Sought) (request : RequestIs) (k : HasHeard told counts (socks users pubs) generation config a b (Some l) (HasAsked request))
     → a.state ≡ unspoken (found_saying told counts users pubs generation config most h marks a b l request k)
 found-before told counts users pubs generation config most h marks a b l request k = λ i. record {
@@ -178,20 +178,20 @@ takes-nothing s full none same = record {
   ends_c = inl (refl, refl);
 }
 
-pub whole-found : {L : Type 0} (told : L → Told) (counts : L → Counts) (users : List User) (pubs : List Config) (generation : ℕ) (config : Config) (most : ℕ) (h : List Line) (marks : List StopBy)
+pub whole-found : {L : Type 0} (told : L → Told) (counts : L → Counts) (users : List User) (pubs : List Entries) (generation : ℕ) (config : Entries) (most : ℕ) (h : List Line) (marks : List StopBy)
     (a b : Assoc L) (l : Sought) (request : RequestIs) (k : HasHeard told counts (socks users pubs) generation config a b (Some l) (HasAsked request))
     → split_in users (spoken (found_saying told counts users pubs generation config most h marks a b l request k)) ≡ Split.Whole (request_in request) request.len
 whole-found told counts users pubs generation config most h marks a b l request k =
     subst (λ (r : Record). split_in users r ≡ Split.Whole (request_in request) request.len)
     (k.state' ∙ ap (with_client_bytes generation config.methods (k.hears).bytes) (found-before told counts users pubs generation config most h marks a b l request k)) k.heard'
 
-pub same-found : {L : Type 0} (told : L → Told) (counts : L → Counts) (users : List User) (pubs : List Config) (generation : ℕ) (config : Config) (most : ℕ) (h : List Line) (marks : List StopBy)
+pub same-found : {L : Type 0} (told : L → Told) (counts : L → Counts) (users : List User) (pubs : List Entries) (generation : ℕ) (config : Entries) (most : ℕ) (h : List Line) (marks : List StopBy)
     (a b : Assoc L) (l : Sought) (request : RequestIs) (k : HasHeard told counts (socks users pubs) generation config a b (Some l) (HasAsked request))
     → (let s = found_saying told counts users pubs generation config most h marks a b l request k in unspoken s ≡ spoken s)
 same-found told counts users pubs generation config most h marks a b l request k =
     nothing-said (found_saying told counts users pubs generation config most h marks a b l request k) ((k.stands).plain).chosen' (k.quiet refl)
 
-abbrev pub asked_found : {L : Type 0} (told : L → Told) (counts : L → Counts) (users : List User) (pubs : List Config) (generation : ℕ) (config : Config) (most : ℕ) (h : List Line) (marks : List StopBy)
+abbrev pub asked_found : {L : Type 0} (told : L → Told) (counts : L → Counts) (users : List User) (pubs : List Entries) (generation : ℕ) (config : Entries) (most : ℕ) (h : List Line) (marks : List StopBy)
     (a b : Assoc L) (l : Sought) (request : RequestIs) (k : HasHeard told counts (socks users pubs) generation config a b (Some l) (HasAsked request)) → name_of request.host ≡ Some l.name → Asked
 asked_found told counts users pubs generation config most h marks a b l request k named = record {
   said = s;
@@ -220,13 +220,13 @@ asked_found told counts users pubs generation config most h marks a b l request 
     whole : split_in users (spoken s) ≡ Split.Whole (request_in request) request.len
     whole = whole-found told counts users pubs generation config most h marks a b l request k
 
-pub found-behind : {L : Type 0} (told : L → Told) (counts : L → Counts) (users : List User) (pubs : List Config) (generation : ℕ) (config : Config) (most : ℕ) (h : List Line) (marks : List StopBy)
+pub found-behind : {L : Type 0} (told : L → Told) (counts : L → Counts) (users : List User) (pubs : List Entries) (generation : ℕ) (config : Entries) (most : ℕ) (h : List Line) (marks : List StopBy)
     (a b : Assoc L) (l : Sought) (request : RequestIs) (k : HasHeard told counts (socks users pubs) generation config a b (Some l) (HasAsked request))
     → b.state ≡ spoken (found_saying told counts users pubs generation config most h marks a b l request k)
 found-behind told counts users pubs generation config most h marks a b l request k =
     k.state' ∙ ap (with_client_bytes generation config.methods (k.hears).bytes) (found-before told counts users pubs generation config most h marks a b l request k)
 
-pub arrives-found : {L : Type 0} (told : L → Told) (counts : L → Counts) (users : List User) (pubs : List Config) (generation : ℕ) (config : Config) (most : ℕ) (h : List Line) (marks : List StopBy)
+pub arrives-found : {L : Type 0} (told : L → Told) (counts : L → Counts) (users : List User) (pubs : List Entries) (generation : ℕ) (config : Entries) (most : ℕ) (h : List Line) (marks : List StopBy)
     (a b : Assoc L) (l : Sought) (request : RequestIs) (k : HasHeard told counts (socks users pubs) generation config a b (Some l) (HasAsked request)) (x : Asked)
     → x.said ≡ found_saying told counts users pubs generation config most h marks a b l request k → Arrives told counts x a b.client
 arrives-found told counts users pubs generation config most h marks a b l request k x is = record {

@@ -1,9 +1,9 @@
 -- The method that is answered to a greeting, over all that the client has sent (RFC 1928, section 3).
 use Rattle.std.proofs.Common.{◌≡◌, ◌==◌, ℕ, Bool, true, false, if◌then◌else◌, Option, Some, None, option_map, List, [], ◌∷◌, ◌++◌, refl, sym, ap, subst, ◌∙◌}
 use Rattle.std.specs.List.{list_any}
-use Rattle.conf_model.specs.declared.protocol.Method.{Method}
-use Rattle.conf_model.specs.declared.user.User.{User}
-use Rattle.conf_model.specs.Handshake.{offered}
+use Rattle.socks_grammar.specs.declared.protocol.Method.{Method}
+use Rattle.socks_grammar.specs.declared.user.User.{User}
+use Rattle.socks_grammar.specs.Handshake.{offered}
 use Rattle.handshake_core.specs.declared.taken.Taken.{Taken}
 use Rattle.handshake_core.specs.Due.{Client, method_after}
 use Rattle.handshake_core.specs.Taking.{IsTaken, Takes}

@@ -8,7 +8,7 @@ use Rattle.socks_machine.specs.declared.cause.Cause.{Cause}
 use Rattle.socks_machine.specs.declared.record.Decision.{Decision}
 use Rattle.socks_machine.specs.declared.record.Record.{Record}
 use Rattle.socks_machine.specs.Decisions.{reached_at}
-use Rattle.conf_model.specs.declared.user.User.{User}
+use Rattle.socks_grammar.specs.declared.user.User.{User}
 use Rattle.assoc_core.specs.declared.one_turn.Course.{Course}
 use Rattle.assoc_core.specs.Course.{course_of}
 use Rattle.net_ends.specs.Counts.{Counts}

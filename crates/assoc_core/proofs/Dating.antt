@@ -1,10 +1,10 @@
 -- What a turn at the moment of the last movement comes to at another moment.
 use Rattle.std.proofs.Common.{◌≡◌, ℕ, ◌<◌, ◌≤◌, Bool, true, false, if◌then◌else◌, Option, Some, None, List, [], ◌++◌, refl, sym, ap, subst, ◌∙◌, length, is_some}
 use Rattle.addr_pattern.specs.declared.endpoint.Endpoint.{Endpoint}
-use Rattle.conf_model.specs.declared.config.Config.{Config}
-use Rattle.conf_model.specs.declared.protocol.Version.{Version}
-use Rattle.conf_model.specs.declared.user.User.{User}
-use Rattle.conf_model.specs.Handshake.{version_of}
+use Rattle.conf_types.specs.declared.entries.Entries.{Entries}
+use Rattle.socks_grammar.specs.declared.protocol.Version.{Version}
+use Rattle.socks_grammar.specs.declared.user.User.{User}
+use Rattle.socks_grammar.specs.Handshake.{version_of}
 use Rattle.net_ends.specs.Counts.{Counts, Rose}
 use Rattle.net_ends.specs.Faults.{Tried}
 use Rattle.net_ends.specs.Nets.{NetTold}
@@ -212,7 +212,7 @@ turns-dated told counts stands s now net net' a next next' t direct mark state c
     is : (worker : ℕ) → aged s.basis (event_of worker a.state.number now t.acts (mark_of next)) a.state t.result.left ≡ left
     is worker = aged-moment s.basis worker a.state.number now t.acts (mark_of next) a.state t.result.left direct t.direct (moves-of told counts stands s a.state.since net net' a next t)
 
-pub again-dated : {L : Type 0} (told : L → Told) (counts : L → Counts) (stands : List Line → List StopBy → Type 0) (users : List User) (pubs : List Config) (generation : ℕ) (config : Config) (cap : ℕ) (h : List Line) (marks : List StopBy)
+pub again-dated : {L : Type 0} (told : L → Told) (counts : L → Counts) (stands : List Line → List StopBy → Type 0) (users : List User) (pubs : List Entries) (generation : ℕ) (config : Entries) (cap : ℕ) (h : List Line) (marks : List StopBy)
     (now since : ℕ) (net net' : NetTold) (a z : Assoc L) (before : Movement)
     → Turns told counts stands (context users pubs generation config cap h marks) a.state.since net net' a (Next.Again z) → GoesDirect (socks users pubs) a.state.decisions
     → before ≡ movement a.state → since ≡ moment before now z.state
@@ -221,7 +221,7 @@ again-dated told counts stands users pubs generation config cap h marks now sinc
     turns-dated told counts stands (context users pubs generation config cap h marks) now net net' a (Next.Again z) _ t direct refl
     (ap (λ n. let r = z.state in record r { since = n }) (is ∙ ap (λ m. moment m now z.state) was)) refl refl (plain-dated users z.state since t.goes_on) (λ w. absurd (cc))
 
-pub done-dated : {L : Type 0} (told : L → Told) (counts : L → Counts) (stands : List Line → List StopBy → Type 0) (users : List User) (pubs : List Config) (generation : ℕ) (config : Config) (cap : ℕ) (h : List Line) (marks : List StopBy)
+pub done-dated : {L : Type 0} (told : L → Told) (counts : L → Counts) (stands : List Line → List StopBy → Type 0) (users : List User) (pubs : List Entries) (generation : ℕ) (config : Entries) (cap : ℕ) (h : List Line) (marks : List StopBy)
     (now since : ℕ) (net net' : NetTold) (a : Assoc L) (e : Ended L) (before : Movement)
     → Turns told counts stands (context users pubs generation config cap h marks) a.state.since net net' a (Next.Done e) → GoesDirect (socks users pubs) a.state.decisions
     → before ≡ movement a.state → since ≡ moment before now e.state
@@ -230,7 +230,7 @@ done-dated told counts stands users pubs generation config cap h marks now since
     turns-dated told counts stands (context users pubs generation config cap h marks) now net net' a (Next.Done e) _ t direct refl
     (ap (λ n. let r = e.state in record r { since = n }) (is ∙ ap (λ m. moment m now e.state) was)) refl refl t.goes_on (λ w. absurd (cc))
 
-pub wait-dated : {L : Type 0} (told : L → Told) (counts : L → Counts) (stands : List Line → List StopBy → Type 0) (users : List User) (pubs : List Config) (generation : ℕ) (config : Config) (cap : ℕ) (h : List Line) (marks : List StopBy)
+pub wait-dated : {L : Type 0} (told : L → Told) (counts : L → Counts) (stands : List Line → List StopBy → Type 0) (users : List User) (pubs : List Entries) (generation : ℕ) (config : Entries) (cap : ℕ) (h : List Line) (marks : List StopBy)
     (now since : ℕ) (net net' : NetTold) (a z : Assoc L) (before : Movement)
     → Turns told counts stands (context users pubs generation config cap h marks) a.state.since net net' a (Next.Wait z) → GoesDirect (socks users pubs) a.state.decisions
     → before ≡ movement a.state → since ≡ moment before now z.state → is_late_by config now (let r = z.state in record r { since = since }) ≡ false
@@ -265,7 +265,7 @@ cause-late-is : (s : Context) (now : ℕ) (r : Record) (k : Option Cause) → Go
 cause-late-is s now r (Some cause) h = refl
 cause-late-is s now r None h = ap (Cause.TimedOut r.since now) (limit-is s.basis s.config r h)
 
-cause-stands : (config : Config) (now limit : ℕ) (r : Record) (k : Option Cause) → limit ≡ limit_of config r → Some (cause_by config now r k) ≡ first_cause (Some (Cause.TimedOut r.since now limit)) k
+cause-stands : (config : Entries) (now limit : ℕ) (r : Record) (k : Option Cause) → limit ≡ limit_of config r → Some (cause_by config now r k) ≡ first_cause (Some (Cause.TimedOut r.since now limit)) k
 cause-stands config now limit r (Some cause) e = refl
 cause-stands config now limit r None e = ap (λ n. Some (Cause.TimedOut r.since now n)) (sym e)
 
@@ -275,7 +275,7 @@ no-dials net net' p outer logged none h = subst (λ (o : Outer). DialsAre net.di
 no-lookups : (net net' : NetTold) (p : Phase) (outer : Outer) (logged : Bool) → outer ≡ Outer.Nothing → LookupsAre net.lookups net'.lookups p outer → LookupsAre net.lookups net'.lookups p (Outer.Desk logged)
 no-lookups net net' p outer logged none h = subst (λ (o : Outer). LookupsAre net.lookups net'.lookups p o) none h
 
-pub late-dated : {L : Type 0} (told : L → Told) (counts : L → Counts) (stands stands' : List Line → List StopBy → Type 0) (users : List User) (pubs : List Config) (generation : ℕ) (config : Config) (cap : ℕ) (h : List Line) (marks : List StopBy)
+pub late-dated : {L : Type 0} (told : L → Told) (counts : L → Counts) (stands stands' : List Line → List StopBy → Type 0) (users : List User) (pubs : List Entries) (generation : ℕ) (config : Entries) (cap : ℕ) (h : List Line) (marks : List StopBy)
     (now since : ℕ) (net net' : NetTold) (a z : Assoc L) (e : Ended L) (before : Movement) (cause : Cause)
     → Turns told counts stands (context users pubs generation config cap h marks) a.state.since net net' a (Next.Wait z) → GoesDirect (socks users pubs) a.state.decisions
     → before ≡ movement a.state → since ≡ moment before now z.state

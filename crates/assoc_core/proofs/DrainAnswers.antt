@@ -2,9 +2,9 @@
 use Rattle.std.proofs.Common.{◌≡◌, ℕ, ◌<◌, ◌⊎◌, inl, inr, Bool, true, false, ◌&&◌, ◌||◌, not, Option, Some, None, List, [], ◌∷◌, ◌++◌, refl, sym, ap, subst, ◌∙◌, length, drop}
 use Rattle.std.proofs.lemmas.List.{append-nil}
 use Rattle.addr_pattern.specs.declared.endpoint.Endpoint.{Endpoint}
-use Rattle.conf_model.specs.declared.config.Config.{Config}
-use Rattle.conf_model.specs.declared.protocol.Command.{Command}
-use Rattle.conf_model.specs.declared.user.User.{User}
+use Rattle.conf_types.specs.declared.entries.Entries.{Entries}
+use Rattle.socks_grammar.specs.declared.protocol.Command.{Command}
+use Rattle.socks_grammar.specs.declared.user.User.{User}
 use Rattle.net_ends.specs.Counts.{Counts, Rose}
 use Rattle.net_ends.specs.Faults.{Tried}
 use Rattle.net_ends.specs.Nets.{NetTold}
@@ -197,7 +197,7 @@ client-drained users old mid told told' counts counts' give plain held ends' fir
 -- ---- the close
 
 pub drain-ends : {L : Type 0} (told : L → Told) (counts : L → Counts) (stands : List Line → List StopBy → Type 0)
-    (users : List User) (pubs : List Config) (generation : ℕ) (config : Config) (cap : ℕ) (h : List Line) (marks : List StopBy) (now : ℕ) (net : NetTold)
+    (users : List User) (pubs : List Entries) (generation : ℕ) (config : Entries) (cap : ℕ) (h : List Line) (marks : List StopBy) (now : ℕ) (net : NetTold)
     (a mid : Assoc L) (e : Ended L) (cause : Cause) (part_c rest_c part_t rest_t : List ℕ) (full_c full_t : Bool) (fault : Option Object) (unwritten : Bool)
     → DrainTurn told counts (socks users pubs) net a (Next.Done e) cause part_c rest_c part_t rest_t full_c full_t fault unwritten → DrainFault a.state rest_c rest_t fault unwritten
     → mid.state ≡ drained a.state part_c part_t → Closed stands h marks cause mid e → a.state.since ≡ now
@@ -286,7 +286,7 @@ same-link told net (Some link) = record { arrived = refl; cap = refl; room = ref
 
 -- the client's write failed, and nothing was sent to the target
 pub client-failed : {L : Type 0} (told : L → Told) (counts : L → Counts) (stands : List Line → List StopBy → Type 0)
-    (users : List User) (pubs : List Config) (generation : ℕ) (config : Config) (cap : ℕ) (h : List Line) (marks : List StopBy) (now : ℕ) (net : NetTold)
+    (users : List User) (pubs : List Entries) (generation : ℕ) (config : Entries) (cap : ℕ) (h : List Line) (marks : List StopBy) (now : ℕ) (net : NetTold)
     (a mid : Assoc L) (e : Ended L) (cause : Cause) (gave_c : Give) → Stands told (socks users pubs) a → a.state.cause ≡ Some cause → a.state.since ≡ now
     → SendsClient (told a.client) (told mid.client) (counts a.client) (counts mid.client) a.state mid.state gave_c → mid.target ≡ a.target
     → is_sound gave_c ≡ false → Closed stands h marks cause mid e
@@ -383,7 +383,7 @@ both-turn told counts net a mid next between cause gave_c gave_t fault unwritten
     held-all told old sent_c sent_t target x = x
 
 pub target-failed : {L : Type 0} (told : L → Told) (counts : L → Counts) (stands : List Line → List StopBy → Type 0)
-    (users : List User) (pubs : List Config) (generation : ℕ) (config : Config) (cap : ℕ) (h : List Line) (marks : List StopBy) (now : ℕ) (net : NetTold)
+    (users : List User) (pubs : List Entries) (generation : ℕ) (config : Entries) (cap : ℕ) (h : List Line) (marks : List StopBy) (now : ℕ) (net : NetTold)
     (a mid : Assoc L) (e : Ended L) (between : Record) (cause : Cause) (gave_c gave_t : Give) → Stands told (socks users pubs) a → a.state.cause ≡ Some cause → a.state.since ≡ now
     → SendsClient (told a.client) (told mid.client) (counts a.client) (counts mid.client) a.state between gave_c → SendsTarget told counts a.target mid.target between mid.state gave_t
     → is_sound gave_t ≡ false → Closed stands h marks cause mid e
@@ -401,7 +401,7 @@ target-failed told counts stands users pubs generation config cap h marks now ne
 
 -- nothing failed, and nothing is left to do
 pub drain-done : {L : Type 0} (told : L → Told) (counts : L → Counts) (stands : List Line → List StopBy → Type 0)
-    (users : List User) (pubs : List Config) (generation : ℕ) (config : Config) (cap : ℕ) (h : List Line) (marks : List StopBy) (now : ℕ) (net : NetTold)
+    (users : List User) (pubs : List Entries) (generation : ℕ) (config : Entries) (cap : ℕ) (h : List Line) (marks : List StopBy) (now : ℕ) (net : NetTold)
     (a mid : Assoc L) (e : Ended L) (between : Record) (cause : Cause) (gave_c gave_t : Give) → Stands told (socks users pubs) a → a.state.cause ≡ Some cause → a.state.since ≡ now
     → SendsClient (told a.client) (told mid.client) (counts a.client) (counts mid.client) a.state between gave_c → SendsTarget told counts a.target mid.target between mid.state gave_t
     → is_sound gave_c ≡ true → is_sound gave_t ≡ true → (is_quiet (Some cause) ≡ true) ⊎ ((is_full gave_c ≡ false) × (is_full gave_t ≡ false)) → Closed stands h marks cause mid e
@@ -423,7 +423,7 @@ drain-done told counts stands users pubs generation config cap h marks now net a
 
 -- something is left that a link doesn't take
 pub drain-rests : {L : Type 0} (told : L → Told) (counts : L → Counts) (stands : List Line → List StopBy → Type 0)
-    (users : List User) (pubs : List Config) (generation : ℕ) (config : Config) (cap : ℕ) (h : List Line) (marks : List StopBy) (now : ℕ) (net : NetTold)
+    (users : List User) (pubs : List Entries) (generation : ℕ) (config : Entries) (cap : ℕ) (h : List Line) (marks : List StopBy) (now : ℕ) (net : NetTold)
     (a mid : Assoc L) (between : Record) (cause : Cause) (gave_c gave_t : Give) → Stands told (socks users pubs) a → a.state.cause ≡ Some cause → a.state.since ≡ now
     → SendsClient (told a.client) (told mid.client) (counts a.client) (counts mid.client) a.state between gave_c → SendsTarget told counts a.target mid.target between mid.state gave_t
     → is_sound gave_c ≡ true → is_sound gave_t ≡ true → is_quiet (Some cause) ≡ false → is_full gave_c || is_full gave_t ≡ true → stands h marks

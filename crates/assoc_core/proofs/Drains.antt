@@ -2,8 +2,8 @@
 use Rattle.std.proofs.Common.{◌≡◌, ℕ, ◌<◌, inl, Bool, true, false, ◌&&◌, ◌||◌, not, Option, Some, None, List, [], ◌++◌, refl, sym, ap, ◌∙◌, length, drop, length-append, append_assoc}
 use Rattle.std.proofs.lemmas.List.{append-nil}
 use Rattle.std.proofs.Math.Seq.{drop-append_seam}
-use Rattle.conf_model.specs.declared.config.Config.{Config}
-use Rattle.conf_model.specs.declared.user.User.{User}
+use Rattle.conf_types.specs.declared.entries.Entries.{Entries}
+use Rattle.socks_grammar.specs.declared.user.User.{User}
 use Rattle.net_ends.specs.Counts.{Counts, Rose}
 use Rattle.net_ends.specs.Faults.{Tried}
 use Rattle.net_ends.specs.declared.kinds.Kind.{Kind}
@@ -100,7 +100,7 @@ drain-opened users old cause plain caused = decided-forms users old (λ ds. is_o
 behind : (sent part rest owed : List ℕ) → (sent ++ part) ++ rest ≡ owed → drop (length sent) owed ≡ part ++ rest
 behind sent part rest owed h = ap (drop (length sent)) (sym h ∙ append_assoc sent part rest) ∙ drop-append_seam sent (part ++ rest)
 
-drain-turn : (users : List User) (pubs : List Config) (generation : ℕ) (config : Config) (cap : ℕ) (h : List Line) (marks : List StopBy) (worker number now : ℕ)
+drain-turn : (users : List User) (pubs : List Entries) (generation : ℕ) (config : Entries) (cap : ℕ) (h : List Line) (marks : List StopBy) (worker number now : ℕ)
     (old : Record) (cause : Cause) (part_c rest_c part_t rest_t : List ℕ) (full_c full_t : Bool) (fault : Option Object) (unwritten : Bool)
     → Drains (socks users pubs) old cause part_c rest_c part_t rest_t → DrainFault old rest_c rest_t fault unwritten
     → InTurn (context users pubs generation config cap h marks) old (event_of worker number now (drain_acts part_c part_t full_c full_t fault unwritten Outer.Nothing) NextMark.Going) old
@@ -128,7 +128,7 @@ drain-turn users pubs generation config cap h marks worker number now old cause 
     faulted (Some Object.Door) f = absurd f
     faulted (Some Object.Port) f = absurd f
 
-drain-fits : (users : List User) (pubs : List Config) (old : Record) (cause : Cause) (part_c rest_c part_t rest_t : List ℕ) (fault : Option Object) (unwritten : Bool)
+drain-fits : (users : List User) (pubs : List Entries) (old : Record) (cause : Cause) (part_c rest_c part_t rest_t : List ℕ) (fault : Option Object) (unwritten : Bool)
     → Drains (socks users pubs) old cause part_c rest_c part_t rest_t → DrainFault old rest_c rest_t fault unwritten → fault_fits (socks users pubs) fault unwritten old ≡ true
 drain-fits users pubs old cause part_c rest_c part_t rest_t fault unwritten k = by-fault fault
   where
@@ -170,15 +170,15 @@ drain-fits users pubs old cause part_c rest_c part_t rest_t fault unwritten k = 
     by-fault (Some Object.Door) f = absurd f
     by-fault (Some Object.Port) f = absurd f
 
-drain-pending-c : (users : List User) (pubs : List Config) (old : Record) (cause : Cause) (part_c rest_c part_t rest_t : List ℕ) → Drains (socks users pubs) old cause part_c rest_c part_t rest_t
+drain-pending-c : (users : List User) (pubs : List Entries) (old : Record) (cause : Cause) (part_c rest_c part_t rest_t : List ℕ) → Drains (socks users pubs) old cause part_c rest_c part_t rest_t
     → pending_to_client (socks users pubs) (drained old part_c part_t) ≡ rest_c
 drain-pending-c users pubs old cause part_c rest_c part_t rest_t k = drop-sent (old.sent_c ++ part_c) rest_c _ (k.owes_c ∙ sym (plain-owes-client users pubs old k.plain k.direct.direct))
 
-drain-pending-t : (users : List User) (pubs : List Config) (old : Record) (cause : Cause) (part_c rest_c part_t rest_t : List ℕ) → Drains (socks users pubs) old cause part_c rest_c part_t rest_t
+drain-pending-t : (users : List User) (pubs : List Entries) (old : Record) (cause : Cause) (part_c rest_c part_t rest_t : List ℕ) → Drains (socks users pubs) old cause part_c rest_c part_t rest_t
     → pending_to_target (socks users pubs) (drained old part_c part_t) ≡ rest_t
 drain-pending-t users pubs old cause part_c rest_c part_t rest_t k = drop-sent (old.sent_t ++ part_t) rest_t _ (k.owes_t ∙ sym (plain-owes-target users pubs old k.plain k.direct.direct))
 
-pub drain-closes : (users : List User) (pubs : List Config) (generation : ℕ) (config : Config) (cap : ℕ) (h : List Line) (marks : List StopBy) (worker number now : ℕ)
+pub drain-closes : (users : List User) (pubs : List Entries) (generation : ℕ) (config : Entries) (cap : ℕ) (h : List Line) (marks : List StopBy) (worker number now : ℕ)
     (old : Record) (cause : Cause) (part_c rest_c part_t rest_t : List ℕ) (full_c full_t : Bool) (fault : Option Object) (unwritten logged : Bool)
     → Drains (socks users pubs) old cause part_c rest_c part_t rest_t → DrainFault old rest_c rest_t fault unwritten → old.since ≡ now
     → (is_nothing rest_c && is_nothing rest_t) || unwritten || is_quiet (Some cause) ≡ true
@@ -191,7 +191,7 @@ drain-closes users pubs generation config cap h marks worker number now old caus
     (drain-opened users old cause k.plain k.caused)
     ((λ i. (is_nothing (drain-pending-c users pubs old cause part_c rest_c part_t rest_t k i) && is_nothing (drain-pending-t users pubs old cause part_c rest_c part_t rest_t k i)) || unwritten || is_quiet (Some cause)) ∙ due)
 
-pub drain-waits : (users : List User) (pubs : List Config) (generation : ℕ) (config : Config) (cap : ℕ) (h : List Line) (marks : List StopBy) (worker number now : ℕ)
+pub drain-waits : (users : List User) (pubs : List Entries) (generation : ℕ) (config : Entries) (cap : ℕ) (h : List Line) (marks : List StopBy) (worker number now : ℕ)
     (old : Record) (cause : Cause) (part_c rest_c part_t rest_t : List ℕ) (full_c full_t : Bool)
     → Drains (socks users pubs) old cause part_c rest_c part_t rest_t → old.since ≡ now
     → (is_nothing rest_c && is_nothing rest_t) || false || is_quiet (Some cause) ≡ false → is_nothing rest_c || full_c ≡ true → is_nothing rest_t || full_t ≡ true
@@ -232,7 +232,7 @@ pub record DrainTurn {L : Type 0} (told : L → Told) (counts : L → Counts) (b
   pub unfailing : (told a.client).unfailing ≡ true → IsUnfailing told net a.target → (fault ≡ None) × (unwritten ≡ false)
 
 pub drain-turns : {L : Type 0} (told : L → Told) (counts : L → Counts) (stands : List Line → List StopBy → Type 0)
-    (users : List User) (pubs : List Config) (generation : ℕ) (config : Config) (cap : ℕ) (h : List Line) (marks : List StopBy) (now : ℕ) (net : NetTold)
+    (users : List User) (pubs : List Entries) (generation : ℕ) (config : Entries) (cap : ℕ) (h : List Line) (marks : List StopBy) (now : ℕ) (net : NetTold)
     (a : Assoc L) (next : Next L) (cause : Cause) (part_c rest_c part_t rest_t : List ℕ) (full_c full_t : Bool) (fault : Option Object) (unwritten : Bool) (outer : Outer)
     (at_close : Option Cause) (done : Bool) (h' : List Line) (marks' : List StopBy)
     → DrainTurn told counts (socks users pubs) net a next cause part_c rest_c part_t rest_t full_c full_t fault unwritten → IsDesk outer

@@ -3,12 +3,12 @@ use Rattle.std.proofs.Common.{◌≡◌, ℕ, zero, suc, ◌≤◌, ◌-◌, Boo
 use Rattle.std.proofs.lemmas.List.Elements.{All-head, All-tail}
 use Rattle.std.proofs.lemmas.Option.{slice_get_within}
 use Rattle.std.proofs.Math.Seq.{set-append_seam}
-use Rattle.conf_model.specs.declared.config.Config.{Config}
-use Rattle.conf_model.specs.declared.protocol.Command.{Command}
-use Rattle.conf_model.specs.declared.route.Route.{Route}
-use Rattle.conf_model.specs.declared.route.Via.{Via}
-use Rattle.conf_model.specs.declared.user.User.{User}
-use Rattle.conf_model.specs.Handshake.{Request, Split}
+use Rattle.conf_types.specs.declared.entries.Entries.{Entries}
+use Rattle.socks_grammar.specs.declared.protocol.Command.{Command}
+use Rattle.conf_types.specs.declared.route.Route.{Route}
+use Rattle.conf_types.specs.declared.route.Via.{Via}
+use Rattle.socks_grammar.specs.declared.user.User.{User}
+use Rattle.socks_grammar.specs.Handshake.{Request, Split}
 use Rattle.net_ends.specs.Counts.{Counts}
 use Rattle.net_ends.specs.Nets.{NetTold}
 use Rattle.net_ends.specs.Told.{Told}
@@ -60,7 +60,7 @@ last-set ds now after x y now' after' =
     let n : length now - 1 ≡ length ds = omega (arith, ap (λ (z : List Decision). length z) now', length-append ds (x ∷ [])) in
     after' ∙ ((λ i. slice_set (now' i) (n i) y) ∙ set-append_seam ds x [] y)
 
-pub asks : (stands : List Line → List StopBy → Type 0) (h : List Line) (marks : List StopBy) (generation : ℕ) (config : Config) (q : Request) (old : Record) (line : GrantLine) (facts : Facts) (said : Said)
+pub asks : (stands : List Line → List StopBy → Type 0) (h : List Line) (marks : List StopBy) (generation : ℕ) (config : Entries) (q : Request) (old : Record) (line : GrantLine) (facts : Facts) (said : Said)
     (route : Option ℕ) (refused why cause : Option Cause) (pushed after : List Decision) (provisional : Decision)
     → line ≡ request_line generation config old q → facts ≡ grant_facts old q → route ≡ route_of config (grant_facts old q) → Grants stands h marks line said
     → why ≡ blocked generation line.verdict → refused ≡ refusal_full generation said why → pushed ≡ old.decisions ++ provisional ∷ []
@@ -88,7 +88,7 @@ via-at [] i h = refl
 via-at (r ∷ rs) zero h = All-head IsDirect r rs h
 via-at (r ∷ rs) (suc i) h = via-at rs i (All-tail IsDirect r rs h)
 
-via-direct : (config : Config) (route : Option ℕ) → All IsDirect config.routes → via_of config route ≡ Via.Direct
+via-direct : (config : Entries) (route : Option ℕ) → All IsDirect config.routes → via_of config route ≡ Via.Direct
 via-direct config None h = refl
 via-direct config (Some zero) h = refl
 via-direct config (Some (suc i)) h = via-at config.routes i h
@@ -205,7 +205,7 @@ grants-by told counts stands x sought net a b g next begun j target' is' grant w
     unlogged : is_login_failed refused ≡ false
     unlogged = refused-unlogged (x.said).generation grant'.said (blocked (x.said).generation (verdict_on (x.said).config (spoken x.said) x.request)) (blocked-unlogged (x.said).generation (verdict_on (x.said).config (spoken x.said) x.request))
 
-pub grants-turn : {L : Type 0} (told : L → Told) (counts : L → Counts) (stands : List Line → List StopBy → Type 0) (users : List User) (pubs : List Config) (generation : ℕ) (config : Config) (most : ℕ) (h : List Line) (marks : List StopBy)
+pub grants-turn : {L : Type 0} (told : L → Told) (counts : L → Counts) (stands : List Line → List StopBy → Type 0) (users : List User) (pubs : List Entries) (generation : ℕ) (config : Entries) (most : ℕ) (h : List Line) (marks : List StopBy)
     (now : ℕ) (net : NetTold) (a b : Assoc L) (sought : Option Sought) (request : RequestIs) (g : Record) (next : Next L)
     → HasHeard told counts (socks users pubs) generation config a b sought (HasAsked request) → name_of request.host ≡ name_sought sought → request.command ≡ Command.Connect → (a.state).since ≡ now
     → AsksGrant stands h marks generation config (request_in request) b.state g → WritesOn told counts (record { state = g; client = b.client; target = b.target }) next
@@ -236,7 +236,7 @@ grants-turn told counts stands users pubs generation config most h marks now net
     x = asked_found told counts users pubs generation config most h marks a b l request k named
 
 -- what is asked for is served: a CONNECT
-pub asks-connect : {L : Type 0} (told : L → Told) (counts : L → Counts) (users : List User) (pubs : List Config) (generation : ℕ) (config : Config) (a b : Assoc L) (sought : Option Sought) (request : RequestIs)
+pub asks-connect : {L : Type 0} (told : L → Told) (counts : L → Counts) (users : List User) (pubs : List Entries) (generation : ℕ) (config : Entries) (a b : Assoc L) (sought : Option Sought) (request : RequestIs)
     → HasHeard told counts (socks users pubs) generation config a b sought (HasAsked request) → request.command ≡ Command.Connect
 asks-connect told counts users pubs generation config a b sought request k = served-connect request.command (sym (ap is_served_split k.heard') ∙ served)
   where

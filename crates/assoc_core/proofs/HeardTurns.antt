@@ -2,10 +2,10 @@
 use Rattle.std.proofs.Common.{◌≡◌, ℕ, Bool, true, false, ◌&&◌, ◌||◌, Option, Some, None, option_map, List, [], ◌∷◌, ◌++◌, length, refl, sym, ap, subst, ◌∙◌, inr, append_assoc}
 use Rattle.std.proofs.lemmas.List.{append-nil}
 use mathlib.Core.List.{IsPrefix}
-use Rattle.conf_model.specs.declared.config.Config.{Config}
-use Rattle.conf_model.specs.declared.protocol.Version.{Version}
-use Rattle.conf_model.specs.declared.user.User.{User}
-use Rattle.conf_model.specs.Handshake.{Split, split, version_of}
+use Rattle.conf_types.specs.declared.entries.Entries.{Entries}
+use Rattle.socks_grammar.specs.declared.protocol.Version.{Version}
+use Rattle.socks_grammar.specs.declared.user.User.{User}
+use Rattle.socks_grammar.specs.Handshake.{Split, split, version_of}
 use Rattle.net_ends.specs.Counts.{Counts}
 use Rattle.net_ends.specs.Faults.{Tried}
 use Rattle.net_ends.specs.declared.kinds.Kind.{Kind}
@@ -57,7 +57,7 @@ served-heard users old new c sent x ended shut ends method v holds first firsts 
 pub talking-of : (users : List User) (r : Record) (ds : List Decision) (g : ℕ) (rule : Option ℕ) → ds ≡ Decision.Opened g rule None ∷ [] → HasDecided users r ds → Talking users r
 talking-of users r ds g rule is h = subst (HasDecided users r) is h
 
-abbrev pub hearing_of : {L : Type 0} (told : L → Told) (counts : L → Counts) (users : List User) (pubs : List Config) (generation : ℕ) (config : Config) (most : ℕ) (h : List Line) (marks : List StopBy)
+abbrev pub hearing_of : {L : Type 0} (told : L → Told) (counts : L → Counts) (users : List User) (pubs : List Entries) (generation : ℕ) (config : Entries) (most : ℕ) (h : List Line) (marks : List StopBy)
     (a b : Assoc L) (heard : Heard) → HasHeard told counts (socks users pubs) generation config a b None heard → Hearing
 hearing_of told counts users pubs generation config most h marks a b heard k = record {
   users = users;
@@ -85,7 +85,7 @@ hearing_of told counts users pubs generation config most h marks a b heard k = r
       (subst (λ (o : Option Cause). IsPrefix (a.state).sent_c (owed_c (let r = a.state in record r { cause = o }))) k.uncaused ((k.stands).plain).sent_c);
 }
 
-pub before-is : {L : Type 0} (told : L → Told) (counts : L → Counts) (users : List User) (pubs : List Config) (generation : ℕ) (config : Config) (most : ℕ) (h : List Line) (marks : List StopBy)
+pub before-is : {L : Type 0} (told : L → Told) (counts : L → Counts) (users : List User) (pubs : List Entries) (generation : ℕ) (config : Entries) (most : ℕ) (h : List Line) (marks : List StopBy)
     (a b : Assoc L) (heard : Heard) (k : HasHeard told counts (socks users pubs) generation config a b None heard) → a.state ≡ before (hearing_of told counts users pubs generation config most h marks a b heard k)
 before-is told counts users pubs generation config most h marks a b heard k = λ i. record {
   number = (a.state).number;
@@ -112,23 +112,23 @@ before-is told counts users pubs generation config most h marks a b heard k = λ
     talking : Talking users a.state
     talking = talking-of users a.state (a.state).decisions k.generation' k.rule k.opened' ((k.stands).plain).decided
 
-pub behind-is : {L : Type 0} (told : L → Told) (counts : L → Counts) (users : List User) (pubs : List Config) (generation : ℕ) (config : Config) (most : ℕ) (h : List Line) (marks : List StopBy)
+pub behind-is : {L : Type 0} (told : L → Told) (counts : L → Counts) (users : List User) (pubs : List Entries) (generation : ℕ) (config : Entries) (most : ℕ) (h : List Line) (marks : List StopBy)
     (a b : Assoc L) (how : Heard) (k : HasHeard told counts (socks users pubs) generation config a b None how) → b.state ≡ heard (hearing_of told counts users pubs generation config most h marks a b how k)
 behind-is told counts users pubs generation config most h marks a b how k =
     k.state' ∙ ap (with_client_bytes generation config.methods (k.hears).bytes) (before-is told counts users pubs generation config most h marks a b how k)
 
 -- what the whole input is
-pub heard-as : {L : Type 0} (told : L → Told) (counts : L → Counts) (users : List User) (pubs : List Config) (generation : ℕ) (config : Config) (most : ℕ) (h : List Line) (marks : List StopBy)
+pub heard-as : {L : Type 0} (told : L → Told) (counts : L → Counts) (users : List User) (pubs : List Entries) (generation : ℕ) (config : Entries) (most : ℕ) (h : List Line) (marks : List StopBy)
     (a b : Assoc L) (how : Heard) (k : HasHeard told counts (socks users pubs) generation config a b None how) → HeardAs (split_heard (hearing_of told counts users pubs generation config most h marks a b how k)) how
 heard-as told counts users pubs generation config most h marks a b how k =
     subst (λ (r : Record). HeardAs (split_in users r) how) (behind-is told counts users pubs generation config most h marks a b how k) k.heard'
 
-pub stands-before : {L : Type 0} (told : L → Told) (counts : L → Counts) (users : List User) (pubs : List Config) (generation : ℕ) (config : Config) (most : ℕ) (h : List Line) (marks : List StopBy)
+pub stands-before : {L : Type 0} (told : L → Told) (counts : L → Counts) (users : List User) (pubs : List Entries) (generation : ℕ) (config : Entries) (most : ℕ) (h : List Line) (marks : List StopBy)
     (a b : Assoc L) (how : Heard) (k : HasHeard told counts (socks users pubs) generation config a b None how) → Stands told (socks users pubs) (with_state a (before (hearing_of told counts users pubs generation config most h marks a b how k)))
 stands-before told counts users pubs generation config most h marks a b how k =
     subst (λ (r : Record). Stands told (socks users pubs) (with_state a r)) (before-is told counts users pubs generation config most h marks a b how k) k.stands
 
-pub turns-before : {L : Type 0} (told : L → Told) (counts : L → Counts) (stands : List Line → List StopBy → Type 0) (users : List User) (pubs : List Config) (generation : ℕ) (config : Config) (most : ℕ) (h : List Line) (marks : List StopBy)
+pub turns-before : {L : Type 0} (told : L → Told) (counts : L → Counts) (stands : List Line → List StopBy → Type 0) (users : List User) (pubs : List Entries) (generation : ℕ) (config : Entries) (most : ℕ) (h : List Line) (marks : List StopBy)
     (now : ℕ) (net : NetTold) (a b : Assoc L) (how : Heard) (next : Next L) (k : HasHeard told counts (socks users pubs) generation config a b None how) → (a.state).since ≡ now
     → (let t = hearing_of told counts users pubs generation config most h marks a b how k in Turns told counts stands (context_of t) (t.party).since net net (with_state a (before t)) next)
     → Turns told counts stands (context_of (hearing_of told counts users pubs generation config most h marks a b how k)) now net net a next
@@ -195,7 +195,7 @@ left-to-send t ends cause fits = ((first-sent t (Some cause) fits).0, (first-sen
 
 -- ---- the client has ended
 
-pub hangs-up : {L : Type 0} (told : L → Told) (counts : L → Counts) (stands : List Line → List StopBy → Type 0) (users : List User) (pubs : List Config) (generation : ℕ) (config : Config) (most : ℕ) (h : List Line) (marks : List StopBy)
+pub hangs-up : {L : Type 0} (told : L → Told) (counts : L → Counts) (stands : List Line → List StopBy → Type 0) (users : List User) (pubs : List Entries) (generation : ℕ) (config : Entries) (most : ℕ) (h : List Line) (marks : List StopBy)
     (now : ℕ) (net : NetTold) (a b : Assoc L) (e : Ended L) (at : ℕ) → HasHeard told counts (socks users pubs) generation config a b None Heard.End → (a.state).since ≡ now → at ≡ length (b.state).c
     → (is_udp b.state ≡ false → Closed stands h marks (Cause.ClientGone at) (with_state b (let r = b.state in record r { end_c = true })) e)
     → Turns told counts stands (context users pubs generation config most h marks) now net net a (Next.Done e)
@@ -262,7 +262,7 @@ silent-fault (Some v) at = refl
 pub owes-fault : (t : Hearing) (sent : List ℕ) → Fits t None → owed_to_client (basis_of t) (caused t sent false (Some Cause.ClientFault)) ≡ owes_now t None
 owes-fault t sent fits = owes-caused t sent false (Some Cause.ClientFault) fits ∙ ap (λ z. opening_owed (t.c ++ t.x) (answered t) None ++ z) (silent-fault (version_of (t.c ++ t.x)) (refused_at (answered t) (t.c ++ t.x) Cause.ClientFault))
 
-pub reads-fail : {L : Type 0} (told : L → Told) (counts : L → Counts) (stands : List Line → List StopBy → Type 0) (users : List User) (pubs : List Config) (generation : ℕ) (config : Config) (most : ℕ) (h : List Line) (marks : List StopBy)
+pub reads-fail : {L : Type 0} (told : L → Told) (counts : L → Counts) (stands : List Line → List StopBy → Type 0) (users : List User) (pubs : List Entries) (generation : ℕ) (config : Entries) (most : ℕ) (h : List Line) (marks : List StopBy)
     (now : ℕ) (net : NetTold) (a b : Assoc L) (e : Ended L) → HasHeard told counts (socks users pubs) generation config a b None Heard.Failed → (a.state).since ≡ now
     → (is_udp b.state ≡ false → Closed stands h marks Cause.ClientFault b e)
     → Turns told counts stands (context users pubs generation config most h marks) now net net a (Next.Done e)

@@ -3,11 +3,11 @@ use Rattle.std.proofs.Common.{◌≡◌, ◌<◌, ◌≤◌, ◌+◌, ◌-◌, �
 use Rattle.std.proofs.lemmas.List.{append-nil, take_all}
 use Rattle.std.proofs.Math.Seq.{drop-append_seam}
 use mathlib.Core.List.{IsPrefix}
-use Rattle.conf_model.specs.declared.config.Config.{Config}
-use Rattle.conf_model.specs.declared.user.User.{User}
-use Rattle.conf_model.specs.Handshake.{split}
-use Rattle.conf_model.specs.Plain.{IsPlain}
-use Rattle.conf_model.specs.declared.protocol.Method.{Method}
+use Rattle.conf_types.specs.declared.entries.Entries.{Entries}
+use Rattle.socks_grammar.specs.declared.user.User.{User}
+use Rattle.socks_grammar.specs.Handshake.{split}
+use Rattle.conf_types.specs.Plain.{IsPlain}
+use Rattle.socks_grammar.specs.declared.protocol.Method.{Method}
 use Rattle.handshake_core.specs.declared.taken.Taken.{Taken}
 use Rattle.handshake_core.specs.Due.{Client, method_after}
 use Rattle.handshake_core.specs.Taking.{Takes}
@@ -143,7 +143,7 @@ hears-enough first now counts counts' before after heard goes h few firsts later
 }
 
 -- what was heard, as the code has it
-pub heard-of : {L : Type 0} (told : L → Told) (counts : L → Counts) (users : List User) (pubs : List Config) (generation : ℕ) (config : Config) (a : Assoc L) (client : L) (c : List ℕ)
+pub heard-of : {L : Type 0} (told : L → Told) (counts : L → Counts) (users : List User) (pubs : List Entries) (generation : ℕ) (config : Entries) (a : Assoc L) (client : L) (c : List ℕ)
     (method : Option ℕ) (chosen : Option Chosen) (heard : Heard) (generation' : ℕ) (rule : Option ℕ)
     → Stands told (socks users pubs) a → TellsServed users (told a.client) → numbered pubs generation ≡ Some config → IsPlain config
     → (a.state).cause ≡ None → (a.state).decisions ≡ Decision.Opened generation' rule None ∷ []

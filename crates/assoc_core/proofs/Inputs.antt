@@ -1,14 +1,14 @@
 -- What the definitions say of a client's input, over any prelude.
 use Rattle.std.proofs.Common.{◌≡◌, ◌==◌, ◌&&◌, ℕ, Bool, true, false, not, if◌then◌else◌, Option, Some, None, List, [], ◌∷◌, ◌++◌, is_some, refl, sym, ap, subst, ◌∙◌, arith}
-use Rattle.conf_model.specs.declared.config.Config.{Config}
-use Rattle.conf_model.specs.declared.protocol.Method.{Method}
-use Rattle.conf_model.specs.declared.protocol.Version.{Version}
-use Rattle.conf_model.specs.declared.user.User.{User}
-use Rattle.conf_model.specs.Grammar.{Read, Asked, Credentials, greeting, login, request4}
-use Rattle.conf_model.specs.Handshake.{Request, Split, split, split_request, split_login, split_answered, split_greeted, login_end, login_place, login_place_of}
-use Rattle.conf_model.specs.Stable.{SplitExtends}
-use Rattle.conf_model.specs.Users.{user_fits}
-use Rattle.conf_model.proofs.GrammarLaws.{split-extends}
+use Rattle.conf_types.specs.declared.entries.Entries.{Entries}
+use Rattle.socks_grammar.specs.declared.protocol.Method.{Method}
+use Rattle.socks_grammar.specs.declared.protocol.Version.{Version}
+use Rattle.socks_grammar.specs.declared.user.User.{User}
+use Rattle.socks_grammar.specs.Grammar.{Read, Asked, Credentials, greeting, login, request4}
+use Rattle.socks_grammar.specs.Handshake.{Request, Split, split, split_request, split_login, split_answered, split_greeted, login_end, login_place, login_place_of}
+use Rattle.socks_grammar.specs.Stable.{SplitExtends}
+use Rattle.socks_grammar.specs.Users.{user_fits}
+use Rattle.socks_grammar.proofs.GrammarLaws.{split-extends}
 use Rattle.socks_machine.specs.Inputs.{is_served_input, is_served_split}
 use Rattle.socks_machine.specs.Socks.{socks}
 use Rattle.socks_machine.specs.View.{login_fits, login_fits_behind}
@@ -101,18 +101,18 @@ fits-passed : (fits : Bool) (x : Split) → is_failed_split x ≡ false → fits
 fits-passed true x h = sym (ap not h)
 fits-passed false x h = refl
 
-logged-passed : (users : List User) (pubs : List Config) (x : Read Credentials) → login_fits (socks users pubs) x ≡ (is_some (login_end x) && not (is_failed_split (split_login users x)))
+logged-passed : (users : List User) (pubs : List Entries) (x : Read Credentials) → login_fits (socks users pubs) x ≡ (is_some (login_end x) && not (is_failed_split (split_login users x)))
 logged-passed users pubs (Read.Got l at rest) = fits-passed (user_fits users l.name l.password) _ (never-failed Version.V5 Method.Username (Some l.name) _)
 logged-passed users pubs Read.Short = refl
 logged-passed users pubs (Read.Wrong at byte kind) = refl
 
-greeted-passed : (users : List User) (pubs : List Config) (x : Read (List ℕ)) → login_fits_behind (socks users pubs) x ≡ (is_some (login_place_of x) && not (is_failed_split (split_greeted users (Some 2) x)))
+greeted-passed : (users : List User) (pubs : List Entries) (x : Read (List ℕ)) → login_fits_behind (socks users pubs) x ≡ (is_some (login_place_of x) && not (is_failed_split (split_greeted users (Some 2) x)))
 greeted-passed users pubs (Read.Got o at rest) = logged-passed users pubs (login at rest)
 greeted-passed users pubs Read.Short = refl
 greeted-passed users pubs (Read.Wrong at byte kind) = refl
 
 -- whether the login behind a greeting fits, in the words of the split
-pub login-passed : (users : List User) (pubs : List Config) (c : List ℕ) → login_fits_behind (socks users pubs) (greeting 0 c) ≡ (is_some (login_place c) && not (is_failed_split (split users (Some 2) c)))
+pub login-passed : (users : List User) (pubs : List Entries) (c : List ℕ) → login_fits_behind (socks users pubs) (greeting 0 c) ≡ (is_some (login_place c) && not (is_failed_split (split users (Some 2) c)))
 login-passed users pubs [] = refl
 login-passed users pubs (b ∷ bytes) = by (b == 5) refl
   where

@@ -1,13 +1,13 @@
 -- The request of a client whose name was looked up is read again.
 use Rattle.std.proofs.Common.{◌≡◌, ◌==◌, ℕ, Bool, true, false, Option, Some, None, List, [], ◌∷◌, ◌++◌, refl, sym, ap, subst, ◌∙◌, arith}
 use Rattle.std.proofs.lemmas.List.{append-nil}
-use Rattle.conf_model.specs.declared.config.Config.{Config}
-use Rattle.conf_model.specs.declared.user.User.{User}
-use Rattle.conf_model.specs.declared.protocol.Method.{Method}
-use Rattle.conf_model.specs.declared.protocol.Version.{Version}
-use Rattle.conf_model.specs.Grammar.{Read, greeting, request4}
-use Rattle.conf_model.specs.Handshake.{Request, Split, split, split_greeted, split_request}
-use Rattle.conf_model.specs.Plain.{IsPlain}
+use Rattle.conf_types.specs.declared.entries.Entries.{Entries}
+use Rattle.socks_grammar.specs.declared.user.User.{User}
+use Rattle.socks_grammar.specs.declared.protocol.Method.{Method}
+use Rattle.socks_grammar.specs.declared.protocol.Version.{Version}
+use Rattle.socks_grammar.specs.Grammar.{Read, greeting, request4}
+use Rattle.socks_grammar.specs.Handshake.{Request, Split, split, split_greeted, split_request}
+use Rattle.conf_types.specs.Plain.{IsPlain}
 use Rattle.handshake_core.specs.declared.request.Request.{Request as RequestIs}
 use Rattle.handshake_core.specs.Answers.{request_in}
 use Rattle.handshake_core.specs.Whole.{OnSplit}
@@ -60,7 +60,7 @@ by-chosen users (Some chosen) c q n h = h
 looked-of : (users : List User) (r : Record) (ds : List Decision) (g : ℕ) (rule : Option ℕ) (l : Sought) → ds ≡ Decision.Opened g rule None ∷ behind_lookup (Some l) [] → HasDecided users r ds → LookedUp users r l.name (Some l.addr)
 looked-of users r ds g rule l is h = subst (HasDecided users r) is h
 
-whole-in : {L : Type 0} (told : L → Told) (users : List User) (pubs : List Config) (a : Assoc L) (g : ℕ) (rule : Option ℕ) (l : Sought) → Stands told (socks users pubs) a → (a.state).decisions ≡ Decision.Opened g rule None ∷ behind_lookup (Some l) []
+whole-in : {L : Type 0} (told : L → Told) (users : List User) (pubs : List Entries) (a : Assoc L) (g : ℕ) (rule : Option ℕ) (l : Sought) → Stands told (socks users pubs) a → (a.state).decisions ≡ Decision.Opened g rule None ∷ behind_lookup (Some l) []
     → (d : LookedUp users a.state l.name (Some l.addr)) × (split users (Some (method_asked (a.state).chosen)) (a.state).c ≡ Split.Whole (d.asked).request (d.asked).len)
 whole-in told users pubs a g rule l standing opens =
     let d = looked-of users a.state (a.state).decisions g rule l opens (standing.plain).decided in
@@ -89,14 +89,14 @@ same-request (Some r) request s q n h is whole = (request-is (sym h ∙ whole) i
         len-is : Split.Whole (request_in r) r.len ≡ Split.Whole q n → r.len ≡ n
         len-is e = cc
 
-pub none-asked : {L : Type 0} (told : L → Told) (users : List User) (pubs : List Config) (a : Assoc L) (g : ℕ) (rule : Option ℕ) (l : Sought) (result : Option RequestIs)
+pub none-asked : {L : Type 0} (told : L → Told) (users : List User) (pubs : List Entries) (a : Assoc L) (g : ℕ) (rule : Option ℕ) (l : Sought) (result : Option RequestIs)
     → Stands told (socks users pubs) a → (a.state).decisions ≡ Decision.Opened g rule None ∷ behind_lookup (Some l) []
     → OnSplit result (split users (Some (method_asked (a.state).chosen)) (a.state).c) → result ≡ None → ⊥
 none-asked told users pubs a g rule l result standing opens h none =
     let w = whole-in told users pubs a g rule l standing opens in
     subst (λ (s : Split). OnSplit None s) w.1 (subst (λ (o : Option RequestIs). OnSplit o (split users (Some (method_asked (a.state).chosen)) (a.state).c)) none h)
 
-pub judged-name : {L : Type 0} (told : L → Told) (counts : L → Counts) (users : List User) (pubs : List Config) (generation : ℕ) (config : Config) (a : Assoc L) (g : ℕ) (rule : Option ℕ) (l : Sought) (result : Option RequestIs) (request : RequestIs)
+pub judged-name : {L : Type 0} (told : L → Told) (counts : L → Counts) (users : List User) (pubs : List Entries) (generation : ℕ) (config : Entries) (a : Assoc L) (g : ℕ) (rule : Option ℕ) (l : Sought) (result : Option RequestIs) (request : RequestIs)
     → Stands told (socks users pubs) a → (a.state).cause ≡ None → (a.state).decisions ≡ Decision.Opened g rule None ∷ behind_lookup (Some l) []
     → OnSplit result (split users (Some (method_asked (a.state).chosen)) (a.state).c) → result ≡ Some request → name_of request.host ≡ Some l.name
 judged-name told counts users pubs generation config a g rule l result request standing uncaused opens h is =
@@ -104,7 +104,7 @@ judged-name told counts users pubs generation config a g rule l result request s
     ap (λ (q : Request). name_of q.host) (same-request result request _ _ _ h is w.1).0 ∙ (w.0).named
 
 -- nothing is heard, and the request is as it was
-pub asked-again : {L : Type 0} (told : L → Told) (counts : L → Counts) (users : List User) (pubs : List Config) (generation : ℕ) (config : Config) (a : Assoc L) (g : ℕ) (rule : Option ℕ) (l : Sought) (result : Option RequestIs) (request : RequestIs)
+pub asked-again : {L : Type 0} (told : L → Told) (counts : L → Counts) (users : List User) (pubs : List Entries) (generation : ℕ) (config : Entries) (a : Assoc L) (g : ℕ) (rule : Option ℕ) (l : Sought) (result : Option RequestIs) (request : RequestIs)
     → Stands told (socks users pubs) a → TellsServed users (told a.client) → numbered pubs generation ≡ Some config → IsPlain config → (a.state).cause ≡ None
     → (a.state).decisions ≡ Decision.Opened g rule None ∷ behind_lookup (Some l) []
     → OnSplit result (split users (Some (method_asked (a.state).chosen)) (a.state).c) → result ≡ Some request

@@ -1,7 +1,7 @@
 -- A configuration that is published later changes nothing of what an association stands for.
 use Rattle.std.proofs.Common.{ℕ, zero, suc, ◌≡◌, ◌≤◌, ◌<◌, Option, Some, None, List, [], ◌∷◌, ◌++◌, refl, ap, ◌∙◌, length, slice_get, IfSome, option_and_then, length-append, arith}
-use Rattle.conf_model.specs.declared.config.Config.{Config}
-use Rattle.conf_model.specs.declared.user.User.{User}
+use Rattle.conf_types.specs.declared.entries.Entries.{Entries}
+use Rattle.socks_grammar.specs.declared.user.User.{User}
 use Rattle.net_ends.specs.Told.{Told}
 use Rattle.rule_list.specs.Rules.{numbered}
 use Rattle.socks_machine.specs.declared.record.Decision.{Decision}
@@ -23,23 +23,23 @@ pub numbered-append : {A : Type 0} (xs more : List A) (n : ℕ) → n ≤ length
 numbered-append xs more zero below = refl
 numbered-append xs more (suc i) below = slice-append xs more i (omega arith)
 
-proxies-later : (basis : Basis) (more : List Config) (g : Option Grant) → IfSome g (λ x. x.generation ≤ length basis.pubs)
+proxies-later : (basis : Basis) (more : List Entries) (g : Option Grant) → IfSome g (λ x. x.generation ≤ length basis.pubs)
     → option_and_then (proxy_of_grant (with_more basis more)) g ≡ option_and_then (proxy_of_grant basis) g
 proxies-later basis more None below = refl
 proxies-later basis more (Some g) below = ap (proxy_in g.route) (numbered-append basis.pubs more g.generation below)
 
-still-known : (pubs more : List Config) (g : Option Grant) → IfSome g (λ x. x.generation ≤ length pubs) → IfSome g (λ x. x.generation ≤ length (pubs ++ more))
+still-known : (pubs more : List Entries) (g : Option Grant) → IfSome g (λ x. x.generation ≤ length pubs) → IfSome g (λ x. x.generation ≤ length (pubs ++ more))
 still-known pubs more None below = below
 still-known pubs more (Some g) below = omega (arith, below, length-append pubs more)
 
-pub direct-later : (basis : Basis) (more : List Config) (ds : List Decision) → GoesDirect basis ds → GoesDirect (with_more basis more) ds
+pub direct-later : (basis : Basis) (more : List Entries) (ds : List Decision) → GoesDirect basis ds → GoesDirect (with_more basis more) ds
 direct-later basis more ds h = record {
   direct = proxies-later basis more (granted ds) h.known ∙ h.direct;
   known = still-known basis.pubs more (granted ds) h.known;
   connects = h.connects;
 }
 
-pub stands-later : {L : Type 0} (told : L → Told) (basis : Basis) (more : List Config) (a : Assoc L) → Stands told basis a → Stands told (with_more basis more) a
+pub stands-later : {L : Type 0} (told : L → Told) (basis : Basis) (more : List Entries) (a : Assoc L) → Stands told basis a → Stands told (with_more basis more) a
 stands-later told basis more a h = record {
   plain = h.plain;
   direct = direct-later basis more (a.state).decisions h.direct;
@@ -50,6 +50,6 @@ stands-later told basis more a h = record {
 }
 
 -- one configuration more
-pub stands-published : {L : Type 0} (told : L → Told) (users : List User) (pubs : List Config) (k : Config) (a : Assoc L)
+pub stands-published : {L : Type 0} (told : L → Told) (users : List User) (pubs : List Entries) (k : Entries) (a : Assoc L)
     → Stands told (socks users pubs) a → Stands told (socks users (pubs ++ k ∷ [])) a
 stands-published told users pubs k a h = stands-later told (socks users pubs) (k ∷ []) a h

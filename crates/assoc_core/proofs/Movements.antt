@@ -2,9 +2,9 @@
 use Rattle.std.proofs.Common.{◌≡◌, ℕ, zero, suc, ◌+◌, ◌==◌, Bool, true, false, ◌&&◌, ◌||◌, ◌-◌, not, if◌then◌else◌, nat_le, nat_lt, Option, Some, None, List, [], ◌∷◌, ◌++◌, refl, sym, ap, ◌∙◌, length, length-append, is_some, option_and_then, arith, le-leb}
 use Rattle.std.proofs.lemmas.Bool.{eq-eqb, ne_eqb}
 use Rattle.addr_pattern.specs.declared.endpoint.Endpoint.{Endpoint}
-use Rattle.conf_model.specs.declared.config.Config.{Config}
-use Rattle.conf_model.specs.declared.protocol.Command.{Command}
-use Rattle.conf_model.specs.declared.user.User.{User}
+use Rattle.conf_types.specs.declared.entries.Entries.{Entries}
+use Rattle.socks_grammar.specs.declared.protocol.Command.{Command}
+use Rattle.socks_grammar.specs.declared.user.User.{User}
 use Rattle.socks_machine.specs.declared.record.Record.{Record}
 use Rattle.socks_machine.specs.declared.world.NextMark.{NextMark}
 use Rattle.socks_machine.specs.Basis.{Basis}
@@ -102,10 +102,10 @@ aged-moment basis worker number now x next old left was is h = λ i. record left
     moment' = (λ i. elim (began-is basis left is i && (not (began-is basis old was i) || moves-are worker number now x next old left h i)) [ true ↦ now | false ↦ left.since ])
         ∙ either-as (is_some (reached_at left.decisions) && (not (is_some (reached_at old.decisions)) || not (same_bytes (movement old) (movement left)))) now left.since
 
-pub limit-is : (basis : Basis) (k : Config) (r : Record) → GoesDirect basis r.decisions → limit basis k r ≡ limit_of k r
+pub limit-is : (basis : Basis) (k : Entries) (r : Record) → GoesDirect basis r.decisions → limit basis k r ≡ limit_of k r
 limit-is basis k r h = ap (λ b. if b then k.io else k.negotiate) (began-is basis r h)
 
-pub late-is : (basis : Basis) (k : Config) (now : ℕ) (r : Record) → GoesDirect basis r.decisions → is_late basis k now r ≡ is_late_by k now r
+pub late-is : (basis : Basis) (k : Entries) (now : ℕ) (r : Record) → GoesDirect basis r.decisions → is_late basis k now r ≡ is_late_by k now r
 late-is basis k now r h = ap (λ n. not (n == 0) && nat_le n (now - r.since)) (limit-is basis k r h)
 
 -- the moment says nothing else of a record

@@ -1,11 +1,11 @@
 -- A prelude that is whole: how long it is, and that nothing behind it changes what it says.
 use Rattle.std.proofs.Common.{◌≡◌, ◌≤◌, ◌==◌, ◌&&◌, ℕ, Bool, true, false, not, Option, Some, None, option_map, List, [], ◌∷◌, ◌++◌, length, is_some, refl, sym, ap, subst, ◌∙◌, eqb-true, arith}
-use Rattle.conf_model.specs.declared.config.Config.{Config}
-use Rattle.conf_model.specs.declared.user.User.{User}
-use Rattle.conf_model.specs.Grammar.{Read, Credentials, greeting, login}
-use Rattle.conf_model.specs.Handshake.{Request, Split, split, split_login, split_greeted, login_end, login_place, login_place_of, offered, offered_by, version_of}
-use Rattle.conf_model.specs.Stable.{Extends}
-use Rattle.conf_model.proofs.GrammarLaws.{greeting-stable}
+use Rattle.conf_types.specs.declared.entries.Entries.{Entries}
+use Rattle.socks_grammar.specs.declared.user.User.{User}
+use Rattle.socks_grammar.specs.Grammar.{Read, Credentials, greeting, login}
+use Rattle.socks_grammar.specs.Handshake.{Request, Split, split, split_login, split_greeted, login_end, login_place, login_place_of, offered, offered_by, version_of}
+use Rattle.socks_grammar.specs.Stable.{Extends}
+use Rattle.socks_grammar.proofs.GrammarLaws.{greeting-stable}
 use Rattle.handshake_core.proofs.Lengths.{ends-there}
 use Rattle.handshake_core.proofs.Places.{ends-within}
 use Rattle.socks_machine.specs.declared.cause.Cause.{Cause}
@@ -22,7 +22,7 @@ use Rattle.assoc_core.proofs.Inputs.{whole-stays}
 prelude-is : (users : List User) (r : Record) (h : HasAsked users r) → prelude_of r ≡ h.len
 prelude-is users r h = ends-there users (option_map (λ c. c.method) r.chosen) r.c h.request h.len h.whole
 
-pub length-is : (users : List User) (pubs : List Config) (r : Record) → HasAsked users r → length_of (split_of (socks users pubs) r) ≡ prelude_of r
+pub length-is : (users : List User) (pubs : List Entries) (r : Record) → HasAsked users r → length_of (split_of (socks users pubs) r) ≡ prelude_of r
 length-is users pubs r h = ap length_of h.whole ∙ sym (prelude-is users r h)
 
 pub prelude-within : (r : Record) → prelude_of r ≤ length r.c

@@ -4,11 +4,11 @@ use Rattle.std.proofs.lemmas.List.{append-nil}
 use Rattle.addr_pattern.specs.declared.addr.Addr.{Addr}
 use Rattle.addr_pattern.specs.declared.endpoint.Endpoint.{Endpoint}
 use Rattle.addr_pattern.specs.declared.host.Host.{Host}
-use Rattle.conf_model.specs.declared.config.Config.{Config}
-use Rattle.conf_model.specs.declared.protocol.Command.{Command}
-use Rattle.conf_model.specs.declared.user.User.{User}
-use Rattle.conf_model.specs.Grammar.{greeting}
-use Rattle.conf_model.specs.Handshake.{Request, Split, split, version_of, login_place}
+use Rattle.conf_types.specs.declared.entries.Entries.{Entries}
+use Rattle.socks_grammar.specs.declared.protocol.Command.{Command}
+use Rattle.socks_grammar.specs.declared.user.User.{User}
+use Rattle.socks_grammar.specs.Grammar.{greeting}
+use Rattle.socks_grammar.specs.Handshake.{Request, Split, split, version_of, login_place}
 use Rattle.rule_list.specs.declared.facts.Facts.{Facts}
 use Rattle.rule_list.specs.declared.verdict.Verdict.{Verdict}
 use Rattle.rule_list.specs.Rules.{numbered}
@@ -92,7 +92,7 @@ has-dialled users r g rule (Some l) g' facts verdict route to at h = h
 
 -- ---- the login
 
-asked-login : (users : List User) (pubs : List Config) (chosen : Option Chosen) (c : List ℕ) (cause : Option Cause) → is_login_failed cause ≡ is_failed_split (split_by users chosen c)
+asked-login : (users : List User) (pubs : List Entries) (chosen : Option Chosen) (c : List ℕ) (cause : Option Cause) → is_login_failed cause ≡ is_failed_split (split_by users chosen c)
     → elim (asks_login chosen) [ true ↦ login_fits_behind (socks users pubs) (greeting 0 c) | false ↦ false ] ≡ has_passed chosen c cause
 asked-login users pubs None c cause h = refl
 asked-login users pubs (Some chosen) c cause h = by (chosen.method == 2) refl
@@ -104,7 +104,7 @@ asked-login users pubs (Some chosen) c cause h = by (chosen.method == 2) refl
         let k : is_login_failed cause ≡ is_failed_split (split users (Some 2) c) = subst (λ n. is_login_failed cause ≡ is_failed_split (split users (Some n) c)) m h in
         rw e (login-passed users pubs c ∙ ap (λ b. is_some (login_place c) && not b) (sym k))
 
-pub record-passed : (users : List User) (pubs : List Config) (r : Record) → is_login_failed r.cause ≡ is_failed_split (split_in users r) → login_passed (socks users pubs) r ≡ has_passed r.chosen r.c r.cause
+pub record-passed : (users : List User) (pubs : List Entries) (r : Record) → is_login_failed r.cause ≡ is_failed_split (split_in users r) → login_passed (socks users pubs) r ≡ has_passed r.chosen r.c r.cause
 record-passed users pubs r h = asked-login users pubs r.chosen r.c r.cause h
 
 -- ---- refusals
@@ -127,7 +127,7 @@ not-udp ds Split.More h = refl
 
 -- ---- what is owed to the client
 
-refused-early : (users : List User) (pubs : List Config) (x : Record) → is_served_split (split_in users x) ≡ true
+refused-early : (users : List User) (pubs : List Entries) (x : Record) → is_served_split (split_in users x) ≡ true
     → relay_began (socks users pubs) x ≡ false → proxy_of (socks users pubs) x ≡ None
     → (cause : Option Cause) → refusal_of_in (view (socks users pubs) x) x cause ≡ refusal_owed x.c x.chosen None cause
 refused-early users pubs x served unbegan direct None = refl
@@ -156,13 +156,13 @@ owes-late : (o s t : List ℕ) → ((o ++ (s ++ [])) ++ t) ++ [] ≡ o ++ (s ++ 
 owes-late o s t = simp (append-nil, append_assoc)
 
 -- no proxy stands behind what was decided
-abbrev pub IsDirect : List User → List Config → List Decision → Type 0
+abbrev pub IsDirect : List User → List Entries → List Decision → Type 0
 IsDirect users pubs ds = option_and_then (proxy_of_grant (socks users pubs)) (granted ds) ≡ None
 
-abbrev OwesClient : List User → List Config → Record → List Decision → Type 0
+abbrev OwesClient : List User → List Entries → Record → List Decision → Type 0
 OwesClient users pubs r ds = IsDirect users pubs ds → owed_to_client (socks users pubs) (record r { decisions = ds }) ≡ plain_to_client r.c r.t r.chosen (reached_at ds) r.cause
 
-pub early-owes : (users : List User) (pubs : List Config) (x : Record) → is_served_split (split_in users x) ≡ true → is_login_failed x.cause ≡ is_failed_split (split_in users x)
+pub early-owes : (users : List User) (pubs : List Entries) (x : Record) → is_served_split (split_in users x) ≡ true → is_login_failed x.cause ≡ is_failed_split (split_in users x)
     → granted_replies_in (view (socks users pubs) x) x (granted x.decisions) ≡ [] → relay_began (socks users pubs) x ≡ false → proxy_of (socks users pubs) x ≡ None
     → owed_to_client (socks users pubs) x ≡ opening_owed x.c x.chosen x.cause ++ refusal_owed x.c x.chosen None x.cause
 early-owes users pubs x served failed unanswered unbegan direct =
@@ -187,7 +187,7 @@ early-owes users pubs x served failed unanswered unbegan direct =
 abbrev pub passed_grant : ℕ → Facts → Verdict → Option ℕ → Grant
 passed_grant g facts verdict route = record { generation = g; facts = facts; verdict = verdict; route = route; refused = None }
 
-late-owes : (users : List User) (pubs : List Config) (r : Record) (g : ℕ) (rule : Option ℕ) (g' : ℕ) (facts : Facts) (verdict : Verdict) (route : Option ℕ) (to at : Endpoint)
+late-owes : (users : List User) (pubs : List Entries) (r : Record) (g : ℕ) (rule : Option ℕ) (g' : ℕ) (facts : Facts) (verdict : Verdict) (route : Option ℕ) (to at : Endpoint)
     → is_login_failed r.cause ≡ is_failed_split (split_in users r) → facts.command ≡ Command.Connect
     → OwesClient users pubs r (Decision.Opened g rule None ∷ Decision.Granted g' facts verdict route None ∷ Decision.Reached to (Some at) ∷ [])
 late-owes users pubs r g rule g' facts verdict route to at failed connects direct =
@@ -224,7 +224,7 @@ late-owes users pubs r g rule g' facts verdict route to at failed connects direc
     began = ap (λ (p : Option Proxy). began_by facts.command (way (Some at) (outcome_with r.t (passed_grant g' facts verdict route) p)) None) direct
         ∙ ap (λ (k : Command). began_by k (Some at) None) connects
 
-reached-owes : (users : List User) (pubs : List Config) (r : Record) (g : ℕ) (rule : Option ℕ) (g' : ℕ) (facts : Facts) (verdict : Verdict) (route : Option ℕ) (to : Endpoint) (at : Option Endpoint)
+reached-owes : (users : List User) (pubs : List Entries) (r : Record) (g : ℕ) (rule : Option ℕ) (g' : ℕ) (facts : Facts) (verdict : Verdict) (route : Option ℕ) (to : Endpoint) (at : Option Endpoint)
     → is_served_split (split_in users r) ≡ true → is_login_failed r.cause ≡ is_failed_split (split_in users r) → facts.command ≡ Command.Connect
     → OwesClient users pubs r (Decision.Opened g rule None ∷ Decision.Granted g' facts verdict route None ∷ Decision.Reached to at ∷ [])
 reached-owes users pubs r g rule g' facts verdict route to None served failed connects direct =
@@ -233,7 +233,7 @@ reached-owes users pubs r g rule g' facts verdict route to None served failed co
 reached-owes users pubs r g rule g' facts verdict route to (Some at) served failed connects direct = late-owes users pubs r g rule g' facts verdict route to at failed connects direct
 
 -- a lookup owes a client nothing
-looked-owes : (users : List User) (pubs : List Config) (r : Record) (g : ℕ) (rule : Option ℕ) (name : List ℕ) (found : Option Addr) (ds : List Decision)
+looked-owes : (users : List User) (pubs : List Entries) (r : Record) (g : ℕ) (rule : Option ℕ) (name : List ℕ) (found : Option Addr) (ds : List Decision)
     → is_served_split (split_in users r) ≡ true → IsDirect users pubs ds
     → owed_to_client (socks users pubs) (record r { decisions = Decision.Opened g rule None ∷ Decision.Looked name found ∷ ds })
     ≡ owed_to_client (socks users pubs) (record r { decisions = Decision.Opened g rule None ∷ ds })
@@ -250,12 +250,12 @@ looked-owes users pubs r g rule name found ds served direct =
     by true began = refused-late (socks users pubs) y began r.cause ∙ sym (refused-late (socks users pubs) x began r.cause)
     by false unbegan = refused-early users pubs y served unbegan direct r.cause ∙ sym (refused-early users pubs x served unbegan direct r.cause)
 
-owes-behind : (users : List User) (pubs : List Config) (r : Record) (g : ℕ) (rule : Option ℕ) (s : Option Sought) (ds : List Decision) → is_served_split (split_in users r) ≡ true
+owes-behind : (users : List User) (pubs : List Entries) (r : Record) (g : ℕ) (rule : Option ℕ) (s : Option Sought) (ds : List Decision) → is_served_split (split_in users r) ≡ true
     → OwesClient users pubs r (Decision.Opened g rule None ∷ ds) → OwesClient users pubs r (Decision.Opened g rule None ∷ behind_lookup s ds)
 owes-behind users pubs r g rule None ds served h direct = h direct
 owes-behind users pubs r g rule (Some l) ds served h direct = looked-owes users pubs r g rule l.name (Some l.addr) ds served direct ∙ h direct
 
-pub plain-owes-client : (users : List User) (pubs : List Config) (r : Record) → IsPlainRecord users r → proxy_of (socks users pubs) r ≡ None → owed_to_client (socks users pubs) r ≡ owed_c r
+pub plain-owes-client : (users : List User) (pubs : List Entries) (r : Record) → IsPlainRecord users r → proxy_of (socks users pubs) r ≡ None → owed_to_client (socks users pubs) r ≡ owed_c r
 plain-owes-client users pubs r h direct = decided-forms users r (OwesClient users pubs r) (record {
   nothing = λ fresh' direct'. early-owes users pubs (record r { decisions = [] }) h.served h.failed refl refl refl;
   opened' = λ g rule d direct'. early-owes users pubs (record r { decisions = Decision.Opened g rule None ∷ [] }) h.served h.failed refl refl refl;
@@ -273,10 +273,10 @@ pub and-false : (b : Bool) → b && false ≡ false
 and-false true = refl
 and-false false = refl
 
-abbrev OwesTarget : List User → List Config → Record → List Decision → Type 0
+abbrev OwesTarget : List User → List Entries → Record → List Decision → Type 0
 OwesTarget users pubs r ds = IsDirect users pubs ds → owed_to_target (socks users pubs) (record r { decisions = ds }) ≡ plain_to_target (prelude_of r) r.c (reached_at ds)
 
-reached-owes-target : (users : List User) (pubs : List Config) (r : Record) (g : ℕ) (rule : Option ℕ) (g' : ℕ) (facts : Facts) (verdict : Verdict) (route : Option ℕ) (to : Endpoint) (at : Option Endpoint) (name : Option (List ℕ))
+reached-owes-target : (users : List User) (pubs : List Entries) (r : Record) (g : ℕ) (rule : Option ℕ) (g' : ℕ) (facts : Facts) (verdict : Verdict) (route : Option ℕ) (to : Endpoint) (at : Option Endpoint) (name : Option (List ℕ))
     → Dialled users r name facts at
     → OwesTarget users pubs r (Decision.Opened g rule None ∷ Decision.Granted g' facts verdict route None ∷ Decision.Reached to at ∷ [])
 reached-owes-target users pubs r g rule g' facts verdict route to None name d direct =
@@ -304,7 +304,7 @@ reached-owes-target users pubs r g rule g' facts verdict route to (Some at) name
       | false ↦ []
     ]
 
-judged-owes-target : (users : List User) (pubs : List Config) (r : Record) (g : ℕ) (rule : Option ℕ) (g' : ℕ) (facts : Facts) (verdict : Verdict) (route : Option ℕ) (refused : Option Cause) → facts.command ≡ Command.Connect
+judged-owes-target : (users : List User) (pubs : List Entries) (r : Record) (g : ℕ) (rule : Option ℕ) (g' : ℕ) (facts : Facts) (verdict : Verdict) (route : Option ℕ) (refused : Option Cause) → facts.command ≡ Command.Connect
     → OwesTarget users pubs r (Decision.Opened g rule None ∷ Decision.Granted g' facts verdict route refused ∷ [])
 judged-owes-target users pubs r g rule g' facts verdict route refused connects direct =
     ap (λ (k : Command). elim (is_none refused && target_by None None k) [
@@ -320,12 +320,12 @@ judged-owes-target users pubs r g rule g' facts verdict route refused connects d
     x = record r { decisions = Decision.Opened g rule None ∷ Decision.Granted g' facts verdict route refused ∷ [] }
 
 -- nor does it owe a target anything
-owes-target-behind : (users : List User) (pubs : List Config) (r : Record) (g : ℕ) (rule : Option ℕ) (s : Option Sought) (ds : List Decision)
+owes-target-behind : (users : List User) (pubs : List Entries) (r : Record) (g : ℕ) (rule : Option ℕ) (s : Option Sought) (ds : List Decision)
     → OwesTarget users pubs r (Decision.Opened g rule None ∷ ds) → OwesTarget users pubs r (Decision.Opened g rule None ∷ behind_lookup s ds)
 owes-target-behind users pubs r g rule None ds h = h
 owes-target-behind users pubs r g rule (Some l) ds h = h
 
-pub plain-owes-target : (users : List User) (pubs : List Config) (r : Record) → IsPlainRecord users r → proxy_of (socks users pubs) r ≡ None → owed_to_target (socks users pubs) r ≡ owed_t r
+pub plain-owes-target : (users : List User) (pubs : List Entries) (r : Record) → IsPlainRecord users r → proxy_of (socks users pubs) r ≡ None → owed_to_target (socks users pubs) r ≡ owed_t r
 plain-owes-target users pubs r h direct = decided-forms users r (OwesTarget users pubs r) (record {
   nothing = λ fresh' direct'. refl;
   opened' = λ g rule d direct'. refl;
@@ -348,7 +348,7 @@ closing-phase basis x cause undone fixed =
     ap (λ b. if b then Phase.Ended else (if is_some x.cause then Phase.Closing else phase_opened_in (view basis x) x (opened x.decisions))) undone
     ∙ ap (λ k. if is_some k then Phase.Closing else phase_opened_in (view basis x) x (opened x.decisions)) fixed
 
-pub talk-phase : (users : List User) (pubs : List Config) (r : Record) (g : ℕ) (rule : Option ℕ)
+pub talk-phase : (users : List User) (pubs : List Entries) (r : Record) (g : ℕ) (rule : Option ℕ)
     → r.done ≡ false → r.cause ≡ None → split_in users r ≡ Split.More
     → phase (socks users pubs) (record r { decisions = Decision.Opened g rule None ∷ [] }) ≡ Phase.Talk
 talk-phase users pubs r g rule undone uncaused more =
@@ -376,7 +376,7 @@ looked-behind : (s : Option Sought) (ds : List Decision) → looked ds ≡ None 
 looked-behind None ds h = h
 looked-behind (Some l) ds h = refl
 
-asked-phase : (users : List User) (pubs : List Config) (x : Record) (o : Opening) → x.done ≡ false → x.cause ≡ None → opened x.decisions ≡ Some o → (asked : HasAsked users x)
+asked-phase : (users : List User) (pubs : List Entries) (x : Record) (o : Opening) → x.done ≡ false → x.cause ≡ None → opened x.decisions ≡ Some o → (asked : HasAsked users x)
     → phase (socks users pubs) x ≡ phase_asked_in (view (socks users pubs) x) x asked.request (asked.request).host
 asked-phase users pubs x o undone uncaused opens asked =
     going-phase (socks users pubs) x undone uncaused
@@ -397,7 +397,7 @@ pub record IsReady (users : List User) (r : Record) (s : Option Sought) : Type 0
   pub asked : HasAsked users r
   pub named : name_of (asked.request).host ≡ name_sought s
 
-ready-phase : (users : List User) (pubs : List Config) (r : Record) (g : ℕ) (rule : Option ℕ) (s : Option Sought) (ds : List Decision) (k : IsReady users r s) → looked ds ≡ None
+ready-phase : (users : List User) (pubs : List Entries) (r : Record) (g : ℕ) (rule : Option ℕ) (s : Option Sought) (ds : List Decision) (k : IsReady users r s) → looked ds ≡ None
     → (let x = record r { decisions = Decision.Opened g rule None ∷ behind_lookup s ds } in phase (socks users pubs) x ≡ phase_granted_in (view (socks users pubs) x) x (k.asked).request (granted (behind_lookup s ds)))
 ready-phase users pubs r g rule s ds k unlooked =
     asked-phase users pubs x (record { generation = g; rule = rule; refused = None }) k.undone k.uncaused refl asked
@@ -409,7 +409,7 @@ ready-phase users pubs r g rule s ds k unlooked =
     asked : HasAsked users x
     asked = record { request = (k.asked).request; len = (k.asked).len; whole = (k.asked).whole }
 
-pub judging-phase : (users : List User) (pubs : List Config) (r : Record) (g : ℕ) (rule : Option ℕ) (s : Option Sought) (k : IsReady users r s)
+pub judging-phase : (users : List User) (pubs : List Entries) (r : Record) (g : ℕ) (rule : Option ℕ) (s : Option Sought) (k : IsReady users r s)
     → phase (socks users pubs) (record r { decisions = Decision.Opened g rule None ∷ behind_lookup s [] }) ≡ Phase.Judging (k.asked).request
 judging-phase users pubs r g rule s k = ready-phase users pubs r g rule s [] k refl ∙ ap (phase_granted_in (view (socks users pubs) x) x (k.asked).request) (granted-behind s [])
   where
@@ -417,7 +417,7 @@ judging-phase users pubs r g rule s k = ready-phase users pubs r g rule s [] k r
     x = record r { decisions = Decision.Opened g rule None ∷ behind_lookup s [] }
 
 -- the name is still to be looked up
-pub seek-phase : (users : List User) (pubs : List Config) (r : Record) (g : ℕ) (rule : Option ℕ) (name : List ℕ) → r.done ≡ false → r.cause ≡ None → (asked : HasAsked users r)
+pub seek-phase : (users : List User) (pubs : List Entries) (r : Record) (g : ℕ) (rule : Option ℕ) (name : List ℕ) → r.done ≡ false → r.cause ≡ None → (asked : HasAsked users r)
     → (asked.request).host ≡ Host.Name name → phase (socks users pubs) (record r { decisions = Decision.Opened g rule None ∷ [] }) ≡ Phase.Seek name
 seek-phase users pubs r g rule name undone uncaused asked named =
     asked-phase users pubs x (record { generation = g; rule = rule; refused = None }) undone uncaused refl (record { request = asked.request; len = asked.len; whole = asked.whole })
@@ -426,7 +426,7 @@ seek-phase users pubs r g rule name undone uncaused asked named =
     x : Record
     x = record r { decisions = Decision.Opened g rule None ∷ [] }
 
-pub reach-phase : (users : List User) (pubs : List Config) (r : Record) (g : ℕ) (rule : Option ℕ) (s : Option Sought) (g' : ℕ) (facts : Facts) (verdict : Verdict) (route : Option ℕ) → IsReady users r s
+pub reach-phase : (users : List User) (pubs : List Entries) (r : Record) (g : ℕ) (rule : Option ℕ) (s : Option Sought) (g' : ℕ) (facts : Facts) (verdict : Verdict) (route : Option ℕ) → IsReady users r s
     → phase (socks users pubs) (record r { decisions = Decision.Opened g rule None ∷ behind_lookup s (Decision.Granted g' facts verdict route None ∷ []) }) ≡ Phase.Reach (passed_grant g' facts verdict route)
 reach-phase users pubs r g rule s g' facts verdict route k =
     ready-phase users pubs r g rule s (Decision.Granted g' facts verdict route None ∷ []) k refl
@@ -437,7 +437,7 @@ reach-phase users pubs r g rule s g' facts verdict route k =
     x : Record
     x = record r { decisions = Decision.Opened g rule None ∷ behind_lookup s (Decision.Granted g' facts verdict route None ∷ []) }
 
-pub relay-phase : (users : List User) (pubs : List Config) (r : Record) (g : ℕ) (rule : Option ℕ) (s : Option Sought) (g' : ℕ) (facts : Facts) (verdict : Verdict) (route : Option ℕ) (to at : Endpoint) → IsReady users r s
+pub relay-phase : (users : List User) (pubs : List Entries) (r : Record) (g : ℕ) (rule : Option ℕ) (s : Option Sought) (g' : ℕ) (facts : Facts) (verdict : Verdict) (route : Option ℕ) (to at : Endpoint) → IsReady users r s
     → facts.command ≡ Command.Connect → proxy_in route (numbered pubs g') ≡ None
     → phase (socks users pubs) (record r { decisions = Decision.Opened g rule None ∷ behind_lookup s (Decision.Granted g' facts verdict route None ∷ Decision.Reached to (Some at) ∷ []) }) ≡ Phase.Relay
 relay-phase users pubs r g rule s g' facts verdict route to at k connects direct =

@@ -2,8 +2,8 @@
 use Rattle.std.proofs.Common.{◌≡◌, ℕ, ◌-◌, ◌<◌, Bool, true, false, ◌||◌, Option, Some, None, List, [], ◌∷◌, ◌++◌, length, drop, slice_set, option_map, refl, sym, ap, subst, ◌∙◌}
 use Rattle.std.specs.Prelude.{Result, IfOk, Ok, Err}
 use Rattle.addr_pattern.specs.declared.endpoint.Endpoint.{Endpoint}
-use Rattle.conf_model.specs.declared.config.Config.{Config}
-use Rattle.conf_model.specs.declared.user.User.{User}
+use Rattle.conf_types.specs.declared.entries.Entries.{Entries}
+use Rattle.socks_grammar.specs.declared.user.User.{User}
 use Rattle.net_ends.specs.declared.kinds.Kind.{Kind}
 use Rattle.net_ends.specs.Counts.{Counts, Rose}
 use Rattle.net_ends.specs.Faults.{Tried}
@@ -44,7 +44,7 @@ use Rattle.assoc_core.proofs.Tryings.{tried-none, tried-as, added-none, rose-new
 
 -- ---- from the turn with the explicit record
 
-pub turns-dialled : {L : Type 0} (told : L → Told) (counts : L → Counts) (users : List User) (pubs : List Config) (generation : ℕ) (config : Config) (most : ℕ) (h : List Line) (marks : List StopBy)
+pub turns-dialled : {L : Type 0} (told : L → Told) (counts : L → Counts) (users : List User) (pubs : List Entries) (generation : ℕ) (config : Entries) (most : ℕ) (h : List Line) (marks : List StopBy)
     (net net' : NetTold) (now : ℕ) (a b z : Assoc L) (o : DialOutcome) (k : HasDialled told (socks users pubs) net net' now a b o) (y_c rest_c rest_t : List ℕ) (full_c full_t : Bool) (fault : Option Object) (unwritten : Bool)
     → Reaches told counts (dialling_of told users pubs generation config most h marks net net' now a b o k) net net' a z o y_c rest_c rest_t full_c full_t fault unwritten
     → Turns told counts (SameDesk h marks) (context users pubs generation config most h marks) now net net' a (Next.Again z)
@@ -89,7 +89,7 @@ client-unwritten Sent.Failed = refl
 unreached-before : {L : Type 0} (told : L → Told) (basis : Basis) (net net' : NetTold) (now : ℕ) (a b : Assoc L) (o : DialOutcome) → HasDialled told basis net net' now a b o → reached_at (a.state).decisions ≡ None
 unreached-before told basis net net' now a b o k = ap reached_at k.granted' ∙ unreached-behind k.g k.rule k.sought k.g' k.facts k.verdict k.route None
 
-pub refuses-turn : {L : Type 0} (told : L → Told) (counts : L → Counts) (users : List User) (pubs : List Config) (generation : ℕ) (config : Config) (most : ℕ) (h : List Line) (marks : List StopBy)
+pub refuses-turn : {L : Type 0} (told : L → Told) (counts : L → Counts) (users : List User) (pubs : List Entries) (generation : ℕ) (config : Entries) (most : ℕ) (h : List Line) (marks : List StopBy)
     (net net' : NetTold) (now : ℕ) (a b : Assoc L) (o : DialOutcome) (cause : Cause) (first : Option Cause) (next : Next L)
     → HasDialled told (socks users pubs) net net' now a b o → cause_of o ≡ Some cause
     → first ≡ first_cause (Some cause) (b.state).cause
@@ -199,7 +199,7 @@ pub record Greets {L : Type 0} (told : L → Told) (counts : L → Counts) (b z 
 some-clash : {A : Type 0} (x : A) → Some x ≡ None → ⊥
 some-clash x e = cc
 
-pub greets-turn : {L : Type 0} (told : L → Told) (counts : L → Counts) (users : List User) (pubs : List Config) (generation : ℕ) (config : Config) (most : ℕ) (h : List Line) (marks : List StopBy)
+pub greets-turn : {L : Type 0} (told : L → Told) (counts : L → Counts) (users : List User) (pubs : List Entries) (generation : ℕ) (config : Entries) (most : ℕ) (h : List Line) (marks : List StopBy)
     (net net' : NetTold) (now : ℕ) (a b z : Assoc L) (local : Endpoint) (new link : L) (y_c rest_c rest_t : List ℕ) (full_c full_t : Bool) (fault : Option Object) (unwritten : Bool)
     → HasDialled told (socks users pubs) net net' now a b (DialOutcome.CameUp local) → IsNewLink (told new) (counts new) net → Greets told counts b z new link y_c rest_c rest_t full_c full_t fault unwritten
     → Turns told counts (SameDesk h marks) (context users pubs generation config most h marks) now net net' a (Next.Again z)
@@ -368,7 +368,7 @@ payload-ends told counts counts' rest Sent.All h = record { full' = λ e. absurd
 payload-ends told counts counts' rest Sent.Full h = record { full' = λ e. h; failed' = λ e. absurd (cc) }
 payload-ends told counts counts' rest Sent.Failed h = record { full' = λ e. absurd (cc); failed' = λ e. (h.0, h.1) }
 
-pub sends-payload : {L : Type 0} (told : L → Told) (counts : L → Counts) (users : List User) (pubs : List Config) (generation : ℕ) (config : Config) (most : ℕ) (h : List Line) (marks : List StopBy)
+pub sends-payload : {L : Type 0} (told : L → Told) (counts : L → Counts) (users : List User) (pubs : List Entries) (generation : ℕ) (config : Entries) (most : ℕ) (h : List Line) (marks : List StopBy)
     (net net' : NetTold) (now : ℕ) (a b z : Assoc L) (local : Endpoint) (new link : L) (s : Record) (last : Option Cause) (full : Bool) (outcome : Sent)
     → HasDialled told (socks users pubs) net net' now a b (DialOutcome.CameUp local) → IsNewLink (told new) (counts new) net → HasGreeted told counts b z full
     → s ≡ (let r = z.state in record r { sent_t = s.sent_t })

@@ -3,9 +3,9 @@ use Rattle.std.proofs.Common.{◌≡◌, ℕ, ◌+◌, ◌<◌, Bool, true, fals
 use Rattle.std.proofs.lemmas.List.{append-nil}
 use mathlib.Core.List.{IsPrefix}
 use Rattle.addr_pattern.specs.declared.endpoint.Endpoint.{Endpoint}
-use Rattle.conf_model.specs.declared.config.Config.{Config}
-use Rattle.conf_model.specs.declared.protocol.Command.{Command}
-use Rattle.conf_model.specs.declared.user.User.{User}
+use Rattle.conf_types.specs.declared.entries.Entries.{Entries}
+use Rattle.socks_grammar.specs.declared.protocol.Command.{Command}
+use Rattle.socks_grammar.specs.declared.user.User.{User}
 use Rattle.net_ends.specs.declared.kinds.Kind.{Kind}
 use Rattle.net_ends.specs.Counts.{Counts, Rose}
 use Rattle.net_ends.specs.Faults.{Tried}
@@ -213,7 +213,7 @@ judged-of users r ds g rule (Some l) g' facts verdict route is h = subst (HasDec
 pub judged-in : {L : Type 0} (told : L → Told) (basis : Basis) (net net' : NetTold) (now : ℕ) (a b : Assoc L) (o : DialOutcome) (k : HasDialled told basis net net' now a b o) → Judged basis.users a.state (name_sought k.sought) k.facts None
 judged-in told basis net net' now a b o k = judged-of basis.users a.state (a.state).decisions k.g k.rule k.sought k.g' k.facts k.verdict k.route k.granted' ((k.stands).plain).decided
 
-abbrev pub dialling_of : {L : Type 0} (told : L → Told) (users : List User) (pubs : List Config) (generation : ℕ) (config : Config) (most : ℕ) (h : List Line) (marks : List StopBy)
+abbrev pub dialling_of : {L : Type 0} (told : L → Told) (users : List User) (pubs : List Entries) (generation : ℕ) (config : Entries) (most : ℕ) (h : List Line) (marks : List StopBy)
     (net net' : NetTold) (now : ℕ) (a b : Assoc L) (o : DialOutcome) → HasDialled told (socks users pubs) net net' now a b o → Dialling
 dialling_of told users pubs generation config most h marks net net' now a b o k = record {
   users = users;
@@ -255,7 +255,7 @@ dialling_of told users pubs generation config most h marks net net' now a b o k 
     asked' : HasAsked users a.state
     asked' = (judged-in told (socks users pubs) net net' now a b o k).asked
 
-pub before-is : {L : Type 0} (told : L → Told) (users : List User) (pubs : List Config) (generation : ℕ) (config : Config) (most : ℕ) (h : List Line) (marks : List StopBy)
+pub before-is : {L : Type 0} (told : L → Told) (users : List User) (pubs : List Entries) (generation : ℕ) (config : Entries) (most : ℕ) (h : List Line) (marks : List StopBy)
     (net net' : NetTold) (now : ℕ) (a b : Assoc L) (o : DialOutcome) (k : HasDialled told (socks users pubs) net net' now a b o)
     → a.state ≡ before (dialling_of told users pubs generation config most h marks net net' now a b o k)
 before-is told users pubs generation config most h marks net net' now a b o k = λ i. record {
@@ -283,7 +283,7 @@ before-is told users pubs generation config most h marks net net' now a b o k = 
     j : Judged users a.state (name_sought k.sought) k.facts None
     j = judged-in told (socks users pubs) net net' now a b o k
 
-pub behind-is : {L : Type 0} (told : L → Told) (users : List User) (pubs : List Config) (generation : ℕ) (config : Config) (most : ℕ) (h : List Line) (marks : List StopBy)
+pub behind-is : {L : Type 0} (told : L → Told) (users : List User) (pubs : List Entries) (generation : ℕ) (config : Entries) (most : ℕ) (h : List Line) (marks : List StopBy)
     (net net' : NetTold) (now : ℕ) (a b : Assoc L) (o : DialOutcome) (k : HasDialled told (socks users pubs) net net' now a b o)
     → b.state ≡ behind (dialling_of told users pubs generation config most h marks net net' now a b o k) (at_of o) (a.state).sent_c [] None
 behind-is told users pubs generation config most h marks net net' now a b o k =

@@ -1,8 +1,8 @@
 -- The answers of a turn in a relay without a proxy.
 use Rattle.std.proofs.Common.{◌≡◌, ℕ, ◌<◌, ◌≤◌, ◌⊎◌, inl, inr, Bool, true, false, ◌&&◌, ◌||◌, not, if◌then◌else◌, nat_le, le-leb, Option, Some, None, List, [], refl, sym, ap, subst, ◌∙◌, length}
 use Rattle.addr_pattern.specs.declared.endpoint.Endpoint.{Endpoint}
-use Rattle.conf_model.specs.declared.config.Config.{Config}
-use Rattle.conf_model.specs.declared.user.User.{User}
+use Rattle.conf_types.specs.declared.entries.Entries.{Entries}
+use Rattle.socks_grammar.specs.declared.user.User.{User}
 use Rattle.net_ends.specs.Counts.{Counts}
 use Rattle.net_ends.specs.Nets.{NetTold}
 use Rattle.net_ends.specs.Told.{Told}
@@ -47,7 +47,7 @@ use Rattle.assoc_core.proofs.RelayTurns.{RelayTurn, pass_acts, pass_leaves, pass
 
 -- where the law is that it closes, it closes
 pub relay-closes : {L : Type 0} (told : L → Told) (counts : L → Counts) (stands : List Line → List StopBy → Type 0)
-    (users : List User) (pubs : List Config) (generation : ℕ) (config : Config) (cap : ℕ) (h : List Line) (marks : List StopBy) (now : ℕ) (net : NetTold)
+    (users : List User) (pubs : List Entries) (generation : ℕ) (config : Entries) (cap : ℕ) (h : List Line) (marks : List StopBy) (now : ℕ) (net : NetTold)
     (a mid : Assoc L) (e : Ended L) (pass : Pass) (k : RelayTurn told counts (socks users pubs) a (Next.Done e) pass) (fault : Option Object) (unwritten : Bool) (cause : Cause) → is_login_failed (Some cause) ≡ false
     → fault_of pass ≡ fault → unwritten_of pass ≡ unwritten → mid.state ≡ k.new → Closed stands h marks cause mid e
     → ((worker : ℕ) (logged : Bool) → turn (context users pubs generation config cap h marks)
@@ -128,7 +128,7 @@ quantum-of : {L : Type 0} {basis : Basis} (told : L → Told) (counts : L → Co
 quantum-of told counts a next pass k = λ i. k.passes.takes_c.whole i || k.passes.takes_t.whole i
 
 pub relay-again : {L : Type 0} (told : L → Told) (counts : L → Counts) (stands : List Line → List StopBy → Type 0)
-    (users : List User) (pubs : List Config) (generation : ℕ) (config : Config) (cap : ℕ) (h : List Line) (marks : List StopBy) (now : ℕ) (net : NetTold)
+    (users : List User) (pubs : List Entries) (generation : ℕ) (config : Entries) (cap : ℕ) (h : List Line) (marks : List StopBy) (now : ℕ) (net : NetTold)
     (a mid : Assoc L) (pass : Pass) (k : RelayTurn told counts (socks users pubs) a (Next.Again mid) pass) → fault_of pass ≡ None → unwritten_of pass ≡ false → mid.state ≡ k.new
     → a.state.since ≡ now → (k.new.shut_c ≡ true → k.new.shut_t ≡ true → ⊥) → took_quantum pass ≡ true → stands h marks
     → Turns told counts stands (context users pubs generation config cap h marks) now net net a (Next.Again mid)
@@ -164,7 +164,7 @@ or-if false true c d h f = refl
 or-if false false c d h f = f h
 
 pub relay-waits : {L : Type 0} (told : L → Told) (counts : L → Counts) (stands : List Line → List StopBy → Type 0)
-    (users : List User) (pubs : List Config) (generation : ℕ) (config : Config) (cap : ℕ) (h : List Line) (marks : List StopBy) (now : ℕ) (net : NetTold)
+    (users : List User) (pubs : List Entries) (generation : ℕ) (config : Entries) (cap : ℕ) (h : List Line) (marks : List StopBy) (now : ℕ) (net : NetTold)
     (a mid : Assoc L) (pass : Pass) (k : RelayTurn told counts (socks users pubs) a (Next.Wait mid) pass) → fault_of pass ≡ None → unwritten_of pass ≡ false → mid.state ≡ k.new
     → a.state.since ≡ now → (k.new.shut_c ≡ true → k.new.shut_t ≡ true → ⊥) → took_quantum pass ≡ false → stands h marks
     → Turns told counts stands (context users pubs generation config cap h marks) now net net a (Next.Wait mid)
@@ -266,7 +266,7 @@ fault-unfailed Object.Port = refl
 
 -- where a call failed, and it has nothing more to do, it closes
 pub fault-closes : {L : Type 0} (told : L → Told) (counts : L → Counts) (stands : List Line → List StopBy → Type 0)
-    (users : List User) (pubs : List Config) (generation : ℕ) (config : Config) (cap : ℕ) (h : List Line) (marks : List StopBy) (now : ℕ) (net : NetTold)
+    (users : List User) (pubs : List Entries) (generation : ℕ) (config : Entries) (cap : ℕ) (h : List Line) (marks : List StopBy) (now : ℕ) (net : NetTold)
     (a mid : Assoc L) (e : Ended L) (pass : Pass) (k : RelayTurn told counts (socks users pubs) a (Next.Done e) pass) (o : Object)
     → fault_of pass ≡ Some o → mid.state ≡ k.new → Closed stands h marks (fault_cause o) mid e → a.state.since ≡ now
     → (is_nothing k.passes.gives_c.rest && is_nothing k.passes.gives_t.rest) || unwritten_of pass || is_quiet (Some (fault_cause o)) ≡ true
@@ -283,7 +283,7 @@ fault-closes told counts stands users pubs generation config cap h marks now net
 
 -- what a call of the target's failed on is still sent to the client
 fault-rests : {L : Type 0} (told : L → Told) (counts : L → Counts)
-    (users : List User) (pubs : List Config) (generation : ℕ) (config : Config) (cap : ℕ) (h : List Line) (marks : List StopBy) (now : ℕ) (worker : ℕ)
+    (users : List User) (pubs : List Entries) (generation : ℕ) (config : Entries) (cap : ℕ) (h : List Line) (marks : List StopBy) (now : ℕ) (worker : ℕ)
     (a : Assoc L) (next : Next L) (pass : Pass) (k : RelayTurn told counts (socks users pubs) a next pass) → fault_of pass ≡ Some Object.Target → unwritten_of pass ≡ false → has_pending pass ≡ true
     → a.state.since ≡ now → mark_of next ≡ (if took_quantum pass then NextMark.Again else NextMark.Wait)
     → turn (context users pubs generation config cap h marks)
@@ -332,7 +332,7 @@ fault-rests told counts users pubs generation config cap h marks now worker a ne
     by-quantum b false h = ap (λ z. if z then NextMark.Again else NextMark.Wait) (sym h)
 
 pub fault-waits : {L : Type 0} (told : L → Told) (counts : L → Counts) (stands : List Line → List StopBy → Type 0)
-    (users : List User) (pubs : List Config) (generation : ℕ) (config : Config) (cap : ℕ) (h : List Line) (marks : List StopBy) (now : ℕ) (net : NetTold)
+    (users : List User) (pubs : List Entries) (generation : ℕ) (config : Entries) (cap : ℕ) (h : List Line) (marks : List StopBy) (now : ℕ) (net : NetTold)
     (a mid : Assoc L) (pass : Pass) (k : RelayTurn told counts (socks users pubs) a (Next.Wait mid) pass) → fault_of pass ≡ Some Object.Target → unwritten_of pass ≡ false → has_pending pass ≡ true
     → mid.state ≡ record k.new { cause = Some Cause.TargetFault } → a.state.since ≡ now → took_quantum pass ≡ false → stands h marks
     → Turns told counts stands (context users pubs generation config cap h marks) now net net a (Next.Wait mid)
@@ -349,7 +349,7 @@ fault-waits told counts stands users pubs generation config cap h marks now net 
     leaves = m ∙ ap (λ (z : Record). let y : Record = record z { cause = Some Cause.TargetFault } in y) (pass-leaves _ _ _ _ _ _ _ _ a.state k.new pass k.passes)
 
 pub fault-again : {L : Type 0} (told : L → Told) (counts : L → Counts) (stands : List Line → List StopBy → Type 0)
-    (users : List User) (pubs : List Config) (generation : ℕ) (config : Config) (cap : ℕ) (h : List Line) (marks : List StopBy) (now : ℕ) (net : NetTold)
+    (users : List User) (pubs : List Entries) (generation : ℕ) (config : Entries) (cap : ℕ) (h : List Line) (marks : List StopBy) (now : ℕ) (net : NetTold)
     (a mid : Assoc L) (pass : Pass) (k : RelayTurn told counts (socks users pubs) a (Next.Again mid) pass) → fault_of pass ≡ Some Object.Target → unwritten_of pass ≡ false → has_pending pass ≡ true
     → mid.state ≡ record k.new { cause = Some Cause.TargetFault } → a.state.since ≡ now → took_quantum pass ≡ true → stands h marks
     → Turns told counts stands (context users pubs generation config cap h marks) now net net a (Next.Again mid)
@@ -368,7 +368,7 @@ fault-again told counts stands users pubs generation config cap h marks now net 
 -- ---- both sides are shut
 
 pub relay-finishes : {L : Type 0} (told : L → Told) (counts : L → Counts) (stands : List Line → List StopBy → Type 0)
-    (users : List User) (pubs : List Config) (generation : ℕ) (config : Config) (cap : ℕ) (h : List Line) (marks : List StopBy) (now : ℕ) (net : NetTold)
+    (users : List User) (pubs : List Entries) (generation : ℕ) (config : Entries) (cap : ℕ) (h : List Line) (marks : List StopBy) (now : ℕ) (net : NetTold)
     (a mid : Assoc L) (e : Ended L) (pass : Pass) (k : RelayTurn told counts (socks users pubs) a (Next.Done e) pass)
     → fault_of pass ≡ None → unwritten_of pass ≡ false → mid.state ≡ k.new → Closed stands h marks Cause.Finished mid e → a.state.since ≡ now
     → k.new.shut_c ≡ true → k.new.shut_t ≡ true
@@ -458,7 +458,7 @@ quiet-due false true = refl
 quiet-due false false = refl
 
 pub client-closes : {L : Type 0} (told : L → Told) (counts : L → Counts) (stands : List Line → List StopBy → Type 0)
-    (users : List User) (pubs : List Config) (generation : ℕ) (config : Config) (cap : ℕ) (h : List Line) (marks : List StopBy) (now : ℕ) (net : NetTold)
+    (users : List User) (pubs : List Entries) (generation : ℕ) (config : Entries) (cap : ℕ) (h : List Line) (marks : List StopBy) (now : ℕ) (net : NetTold)
     (a mid : Assoc L) (e : Ended L) (pass : Pass) (k : RelayTurn told counts (socks users pubs) a (Next.Done e) pass)
     → fault_of pass ≡ Some Object.Client → mid.state ≡ k.new → Closed stands h marks Cause.ClientFault mid e → a.state.since ≡ now
     → Turns told counts stands (context users pubs generation config cap h marks) now net net a (Next.Done e)

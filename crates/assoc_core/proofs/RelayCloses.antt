@@ -1,8 +1,8 @@
 -- The ends of a turn in a relay without a proxy: it closes, or waits in Closing.
 use Rattle.std.proofs.Common.{◌≡◌, ℕ, Bool, true, false, ◌&&◌, ◌||◌, Option, Some, None, List, [], ◌++◌, refl, sym, ap, subst, ◌∙◌, is_some}
 use Rattle.addr_pattern.specs.declared.endpoint.Endpoint.{Endpoint}
-use Rattle.conf_model.specs.declared.config.Config.{Config}
-use Rattle.conf_model.specs.declared.user.User.{User}
+use Rattle.conf_types.specs.declared.entries.Entries.{Entries}
+use Rattle.socks_grammar.specs.declared.user.User.{User}
 use Rattle.socks_machine.specs.declared.cause.Cause.{Cause}
 use Rattle.socks_machine.specs.declared.cause.StopBy.{StopBy}
 use Rattle.socks_machine.specs.declared.lines.Line.{Line}
@@ -34,13 +34,13 @@ use Rattle.assoc_core.proofs.RelaySums.{Sums, summed, Begun, sum_acts, relays, s
 
 -- ---- what is pending of a record behind a relay's turn
 
-pending-c : (users : List User) (pubs : List Config) (old : Record) (at : Endpoint) (c t part_c rest_c part_t rest_t : List ℕ) (end_c end_t shut_c shut_t : Bool) (cause : Option Cause) → is_login_failed cause ≡ false
+pending-c : (users : List User) (pubs : List Entries) (old : Record) (at : Endpoint) (c t part_c rest_c part_t rest_t : List ℕ) (end_c end_t shut_c shut_t : Bool) (cause : Option Cause) → is_login_failed cause ≡ false
     → InRelay (socks users pubs) old at c t part_c rest_c part_t rest_t end_c end_t shut_c shut_t
     → pending_to_client (socks users pubs) (summed old c t part_c part_t end_c end_t shut_c shut_t cause) ≡ rest_c
 pending-c users pubs old at c t part_c rest_c part_t rest_t end_c end_t shut_c shut_t cause f k =
     drop-sent (old.sent_c ++ part_c) rest_c _ (owes-c users pubs old at c t part_c rest_c part_t rest_t end_c end_t shut_c shut_t cause f k)
 
-pending-t : (users : List User) (pubs : List Config) (old : Record) (at : Endpoint) (c t part_c rest_c part_t rest_t : List ℕ) (end_c end_t shut_c shut_t : Bool) (cause : Option Cause) → is_login_failed cause ≡ false
+pending-t : (users : List User) (pubs : List Entries) (old : Record) (at : Endpoint) (c t part_c rest_c part_t rest_t : List ℕ) (end_c end_t shut_c shut_t : Bool) (cause : Option Cause) → is_login_failed cause ≡ false
     → InRelay (socks users pubs) old at c t part_c rest_c part_t rest_t end_c end_t shut_c shut_t
     → pending_to_target (socks users pubs) (summed old c t part_c part_t end_c end_t shut_c shut_t cause) ≡ rest_t
 pending-t users pubs old at c t part_c rest_c part_t rest_t end_c end_t shut_c shut_t cause f k =
@@ -75,13 +75,13 @@ closes-with s old worker number now acts a d x cause logged h calls_none fits sa
         ∙ (ap (λ b. b && (nothing_pending s.basis x || acts.unwritten || is_quiet (Some cause) || late)) opened'
         ∙ or-more (nothing_pending s.basis x) acts.unwritten (is_quiet (Some cause)) late due)
 
-pub pending-none : (users : List User) (pubs : List Config) (old : Record) (at : Endpoint) (c t part_c rest_c part_t rest_t : List ℕ) (end_c end_t shut_c shut_t : Bool) (cause : Option Cause) → is_login_failed cause ≡ false
+pub pending-none : (users : List User) (pubs : List Entries) (old : Record) (at : Endpoint) (c t part_c rest_c part_t rest_t : List ℕ) (end_c end_t shut_c shut_t : Bool) (cause : Option Cause) → is_login_failed cause ≡ false
     → InRelay (socks users pubs) old at c t part_c rest_c part_t rest_t end_c end_t shut_c shut_t
     → nothing_pending (socks users pubs) (summed old c t part_c part_t end_c end_t shut_c shut_t cause) ≡ is_nothing rest_c && is_nothing rest_t
 pending-none users pubs old at c t part_c rest_c part_t rest_t end_c end_t shut_c shut_t cause f k =
     λ i. is_nothing (pending-c users pubs old at c t part_c rest_c part_t rest_t end_c end_t shut_c shut_t cause f k i) && is_nothing (pending-t users pubs old at c t part_c rest_c part_t rest_t end_c end_t shut_c shut_t cause f k i)
 
-pub sinks-by : (users : List User) (pubs : List Config) (old : Record) (at : Endpoint) (c t part_c rest_c part_t rest_t : List ℕ) (end_c end_t shut_c shut_t : Bool) (cause : Option Cause)
+pub sinks-by : (users : List User) (pubs : List Entries) (old : Record) (at : Endpoint) (c t part_c rest_c part_t rest_t : List ℕ) (end_c end_t shut_c shut_t : Bool) (cause : Option Cause)
     (full_c full_t : Bool) (e : TurnEvent) → e.full ≡ links full_c full_t → is_login_failed cause ≡ false → InRelay (socks users pubs) old at c t part_c rest_c part_t rest_t end_c end_t shut_c shut_t
     → is_nothing rest_c || full_c ≡ true → is_nothing rest_t || full_t ≡ true → sinks_rest (socks users pubs) e (summed old c t part_c part_t end_c end_t shut_c shut_t cause) ≡ true
 sinks-by users pubs old at c t part_c rest_c part_t rest_t end_c end_t shut_c shut_t cause full_c full_t e full f k sink_c sink_t =
@@ -93,13 +93,13 @@ sinks-by users pubs old at c t part_c rest_c part_t rest_t end_c end_t shut_c sh
 -- ---- both sides are shut
 
 -- where a turn shuts the last side, it closes
-abbrev Finishes : List User → List Config → ℕ → Config → ℕ → List Line → List StopBy → ℕ → ℕ → ℕ → Record → List ℕ → List ℕ → List ℕ → List ℕ → Bool → Bool → Bool → Bool → Bool → Bool → Bool → Bool → Bool → Type 0
+abbrev Finishes : List User → List Entries → ℕ → Entries → ℕ → List Line → List StopBy → ℕ → ℕ → ℕ → Record → List ℕ → List ℕ → List ℕ → List ℕ → Bool → Bool → Bool → Bool → Bool → Bool → Bool → Bool → Bool → Type 0
 Finishes users pubs generation config cap h marks worker number now old c t part_c part_t end_c end_t shut_c shut_t idle_c idle_t full_c full_t logged =
     turn (context users pubs generation config cap h marks)
     (event_of worker number now (desk_acts (sum_acts c t part_c part_t end_c end_t shut_c shut_t idle_c idle_t full_c full_t) (Outer.Desk logged)) NextMark.Done) old
     ≡ Some (marked NextMark.Done (call_close h marks (summed old c t part_c part_t end_c end_t shut_c shut_t (Some Cause.Finished)) Cause.Finished logged))
 
-sends-rest-c : (users : List User) (pubs : List Config) (generation : ℕ) (config : Config) (cap : ℕ) (h : List Line) (marks : List StopBy)
+sends-rest-c : (users : List User) (pubs : List Entries) (generation : ℕ) (config : Entries) (cap : ℕ) (h : List Line) (marks : List StopBy)
     (old : Record) (at : Endpoint) (c t part_c rest_c part_t rest_t : List ℕ) (end_c end_t shut_c shut_t : Bool) → InRelay (socks users pubs) old at c t part_c rest_c part_t rest_t end_c end_t shut_c shut_t
     → (old.sent_c ++ part_c) ++ rest_c ≡ due_c (context users pubs generation config cap h marks) old t
 sends-rest-c users pubs generation config cap h marks old at c t part_c rest_c part_t rest_t end_c end_t shut_c shut_t k =
@@ -107,7 +107,7 @@ sends-rest-c users pubs generation config cap h marks old at c t part_c rest_c p
     ∙ relay-owes-c (context users pubs generation config cap h marks) old c t (end_c || old.end_c) (end_t || old.end_t)
     (plain-relay-facts users pubs generation config cap h marks old at k.begun.plain k.begun.reaches k.begun.uncaused k.begun.direct)
 
-sends-rest-t : (users : List User) (pubs : List Config) (generation : ℕ) (config : Config) (cap : ℕ) (h : List Line) (marks : List StopBy)
+sends-rest-t : (users : List User) (pubs : List Entries) (generation : ℕ) (config : Entries) (cap : ℕ) (h : List Line) (marks : List StopBy)
     (old : Record) (at : Endpoint) (c t part_c rest_c part_t rest_t : List ℕ) (end_c end_t shut_c shut_t : Bool) → InRelay (socks users pubs) old at c t part_c rest_c part_t rest_t end_c end_t shut_c shut_t
     → (old.sent_t ++ part_t) ++ rest_t ≡ due_t (context users pubs generation config cap h marks) old c
 sends-rest-t users pubs generation config cap h marks old at c t part_c rest_c part_t rest_t end_c end_t shut_c shut_t k =
@@ -116,7 +116,7 @@ sends-rest-t users pubs generation config cap h marks old at c t part_c rest_c p
     (plain-relay-facts users pubs generation config cap h marks old at k.begun.plain k.begun.reaches k.begun.uncaused k.begun.direct)
 
 -- the client's side is shut last, or at once with the target's
-finishes-c : (users : List User) (pubs : List Config) (generation : ℕ) (config : Config) (cap : ℕ) (h : List Line) (marks : List StopBy) (worker number now : ℕ)
+finishes-c : (users : List User) (pubs : List Entries) (generation : ℕ) (config : Entries) (cap : ℕ) (h : List Line) (marks : List StopBy) (worker number now : ℕ)
     (old : Record) (at : Endpoint) (c t part_c rest_c part_t rest_t : List ℕ) (end_c end_t shut_t idle_c idle_t full_c full_t logged : Bool) → Begun (socks users pubs) old at
     → Sums old c t part_c rest_c part_t rest_t end_c end_t true shut_t → old.since ≡ now → shut_t || old.shut_t ≡ true
     → Finishes users pubs generation config cap h marks worker number now old c t part_c part_t end_c end_t true shut_t idle_c idle_t full_c full_t logged
@@ -163,7 +163,7 @@ finishes-c users pubs generation config cap h marks worker number now old at c t
     sends_t = sends-rest-t users pubs generation config cap h marks old at c t part_c rest_c part_t rest_t end_c end_t false shut_t in_relay
 
 -- the target's side is shut last
-finishes-t : (users : List User) (pubs : List Config) (generation : ℕ) (config : Config) (cap : ℕ) (h : List Line) (marks : List StopBy) (worker number now : ℕ)
+finishes-t : (users : List User) (pubs : List Entries) (generation : ℕ) (config : Entries) (cap : ℕ) (h : List Line) (marks : List StopBy) (worker number now : ℕ)
     (old : Record) (at : Endpoint) (c t part_c rest_c part_t rest_t : List ℕ) (end_c end_t idle_c idle_t full_c full_t logged : Bool) → Begun (socks users pubs) old at
     → Sums old c t part_c rest_c part_t rest_t end_c end_t false true → old.since ≡ now → old.shut_c ≡ true
     → Finishes users pubs generation config cap h marks worker number now old c t part_c part_t end_c end_t false true idle_c idle_t full_c full_t logged
@@ -213,7 +213,7 @@ finishes-t users pubs generation config cap h marks worker number now old at c t
     sends_t : (old.sent_t ++ part_t) ++ rest_t ≡ due_t s old c
     sends_t = sends-rest-t users pubs generation config cap h marks old at c t part_c rest_c part_t rest_t end_c end_t false false in_relay
 
-pub finishes : (users : List User) (pubs : List Config) (generation : ℕ) (config : Config) (cap : ℕ) (h : List Line) (marks : List StopBy) (worker number now : ℕ)
+pub finishes : (users : List User) (pubs : List Entries) (generation : ℕ) (config : Entries) (cap : ℕ) (h : List Line) (marks : List StopBy) (worker number now : ℕ)
     (old : Record) (at : Endpoint) (c t part_c rest_c part_t rest_t : List ℕ) (end_c end_t shut_c shut_t idle_c idle_t full_c full_t logged : Bool) → Begun (socks users pubs) old at
     → Sums old c t part_c rest_c part_t rest_t end_c end_t shut_c shut_t → old.since ≡ now → shut_c || old.shut_c ≡ true → shut_t || old.shut_t ≡ true
     → Finishes users pubs generation config cap h marks worker number now old c t part_c part_t end_c end_t shut_c shut_t idle_c idle_t full_c full_t logged

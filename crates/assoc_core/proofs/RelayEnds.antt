@@ -2,8 +2,8 @@
 use Rattle.std.proofs.Common.{◌≡◌, ℕ, ◌<◌, ◌⊎◌, inl, inr, Bool, true, false, ◌&&◌, ◌||◌, not, nat_le, Option, Some, List, [], ◌∷◌, ◌++◌, refl, sym, ap, subst, ◌∙◌, length, drop, append_assoc, arith}
 use Rattle.std.proofs.Math.Seq.{drop-append_seam}
 use Rattle.addr_pattern.specs.declared.endpoint.Endpoint.{Endpoint}
-use Rattle.conf_model.specs.declared.config.Config.{Config}
-use Rattle.conf_model.specs.declared.user.User.{User}
+use Rattle.conf_types.specs.declared.entries.Entries.{Entries}
+use Rattle.socks_grammar.specs.declared.user.User.{User}
 use Rattle.socks_machine.specs.declared.cause.Cause.{Cause}
 use Rattle.socks_machine.specs.declared.cause.StopBy.{StopBy}
 use Rattle.socks_machine.specs.declared.lines.Line.{Line}
@@ -64,17 +64,17 @@ pub record InRelay (basis : Basis) (old : Record) (at : Endpoint) (c t part_c re
   pub sums : Sums old c t part_c rest_c part_t rest_t end_c end_t shut_c shut_t
   pub apart : (shut_c || old.shut_c) && (shut_t || old.shut_t) ≡ false
 
-in-facts : (users : List User) (pubs : List Config) (generation : ℕ) (config : Config) (cap : ℕ) (h : List Line) (marks : List StopBy) (old : Record) (at : Endpoint) → Begun (socks users pubs) old at
+in-facts : (users : List User) (pubs : List Entries) (generation : ℕ) (config : Entries) (cap : ℕ) (h : List Line) (marks : List StopBy) (old : Record) (at : Endpoint) → Begun (socks users pubs) old at
     → RelayFacts (context users pubs generation config cap h marks) old
 in-facts users pubs generation config cap h marks old at b = plain-relay-facts users pubs generation config cap h marks old at b.plain b.reaches b.uncaused b.direct
 
-pub in-phase : (users : List User) (pubs : List Config) (generation : ℕ) (config : Config) (cap : ℕ) (h : List Line) (marks : List StopBy) (old : Record) (at : Endpoint) (c t : List ℕ) (end_c end_t : Bool) → Begun (socks users pubs) old at
+pub in-phase : (users : List User) (pubs : List Entries) (generation : ℕ) (config : Entries) (cap : ℕ) (h : List Line) (marks : List StopBy) (old : Record) (at : Endpoint) (c t : List ℕ) (end_c end_t : Bool) → Begun (socks users pubs) old at
     → phase (socks users pubs) (record old { c = old.c ++ c; t = old.t ++ t; end_c = end_c; end_t = end_t }) ≡ Phase.Relay
 in-phase users pubs generation config cap h marks old at c t end_c end_t b =
     let f = in-facts users pubs generation config cap h marks old at b in
     alike (socks users pubs) old (old.c ++ c) (old.t ++ t) end_c end_t f.direct (f.whole c) ∙ f.relays
 
-pub owes-c : (users : List User) (pubs : List Config) (old : Record) (at : Endpoint) (c t part_c rest_c part_t rest_t : List ℕ) (end_c end_t shut_c shut_t : Bool) (cause : Option Cause) → is_login_failed cause ≡ false
+pub owes-c : (users : List User) (pubs : List Entries) (old : Record) (at : Endpoint) (c t part_c rest_c part_t rest_t : List ℕ) (end_c end_t shut_c shut_t : Bool) (cause : Option Cause) → is_login_failed cause ≡ false
     → InRelay (socks users pubs) old at c t part_c rest_c part_t rest_t end_c end_t shut_c shut_t
     → (old.sent_c ++ part_c) ++ rest_c ≡ owed_to_client (socks users pubs) (summed old c t part_c part_t end_c end_t shut_c shut_t cause)
 owes-c users pubs old at c t part_c rest_c part_t rest_t end_c end_t shut_c shut_t cause f k =
@@ -82,7 +82,7 @@ owes-c users pubs old at c t part_c rest_c part_t rest_t end_c end_t shut_c shut
     ∙ sym (plain-owes-client users pubs (summed old c t part_c part_t end_c end_t shut_c shut_t cause)
     (sums-carried old at c t part_c rest_c part_t rest_t end_c end_t shut_c shut_t cause f k.begun k.sums k.apart) k.begun.direct)
 
-pub owes-t : (users : List User) (pubs : List Config) (old : Record) (at : Endpoint) (c t part_c rest_c part_t rest_t : List ℕ) (end_c end_t shut_c shut_t : Bool) (cause : Option Cause) → is_login_failed cause ≡ false
+pub owes-t : (users : List User) (pubs : List Entries) (old : Record) (at : Endpoint) (c t part_c rest_c part_t rest_t : List ℕ) (end_c end_t shut_c shut_t : Bool) (cause : Option Cause) → is_login_failed cause ≡ false
     → InRelay (socks users pubs) old at c t part_c rest_c part_t rest_t end_c end_t shut_c shut_t
     → (old.sent_t ++ part_t) ++ rest_t ≡ owed_to_target (socks users pubs) (summed old c t part_c part_t end_c end_t shut_c shut_t cause)
 owes-t users pubs old at c t part_c rest_c part_t rest_t end_c end_t shut_c shut_t cause f k =
@@ -92,7 +92,7 @@ owes-t users pubs old at c t part_c rest_c part_t rest_t end_c end_t shut_c shut
 
 -- ---- it goes on
 
-pub goes-again : (users : List User) (pubs : List Config) (generation : ℕ) (config : Config) (cap : ℕ) (h : List Line) (marks : List StopBy) (worker number now : ℕ)
+pub goes-again : (users : List User) (pubs : List Entries) (generation : ℕ) (config : Entries) (cap : ℕ) (h : List Line) (marks : List StopBy) (worker number now : ℕ)
     (old : Record) (at : Endpoint) (c t part_c rest_c part_t rest_t : List ℕ) (end_c end_t shut_c shut_t idle_c idle_t full_c full_t : Bool)
     → InRelay (socks users pubs) old at c t part_c rest_c part_t rest_t end_c end_t shut_c shut_t → old.since ≡ now
     → nat_le quantum (length c) || nat_le quantum (length t) ≡ true
@@ -129,7 +129,7 @@ pub record Resting (old : Record) (rest_c rest_t : List ℕ) (end_c end_t shut_c
   pub side_c : (end_t || old.end_t) && not (shut_c || old.shut_c) && is_nothing rest_c ≡ false
   pub side_t : (end_c || old.end_c) && not (shut_t || old.shut_t) && is_nothing rest_t ≡ false
 
-pub goes-waiting : (users : List User) (pubs : List Config) (generation : ℕ) (config : Config) (cap : ℕ) (h : List Line) (marks : List StopBy) (worker number now : ℕ)
+pub goes-waiting : (users : List User) (pubs : List Entries) (generation : ℕ) (config : Entries) (cap : ℕ) (h : List Line) (marks : List StopBy) (worker number now : ℕ)
     (old : Record) (at : Endpoint) (c t part_c rest_c part_t rest_t : List ℕ) (end_c end_t shut_c shut_t idle_c idle_t full_c full_t : Bool)
     → InRelay (socks users pubs) old at c t part_c rest_c part_t rest_t end_c end_t shut_c shut_t → old.since ≡ now
     → nat_le quantum (length c) || nat_le quantum (length t) ≡ false → Resting old rest_c rest_t end_c end_t shut_c shut_t idle_c idle_t full_c full_t
@@ -268,7 +268,7 @@ pub record Failed (s : Context) (old : Record) (e : TurnEvent) (a x : Record) (c
   pub relays' : phase s.basis a ≡ Phase.Relay
   pub opened' : is_opened old.decisions ≡ true
 
-pub fails : (users : List User) (pubs : List Config) (generation : ℕ) (config : Config) (cap : ℕ) (h : List Line) (marks : List StopBy) (worker number now : ℕ)
+pub fails : (users : List User) (pubs : List Entries) (generation : ℕ) (config : Entries) (cap : ℕ) (h : List Line) (marks : List StopBy) (worker number now : ℕ)
     (old : Record) (at : Endpoint) (c t part_c rest_c part_t rest_t : List ℕ) (end_c end_t shut_c shut_t idle_c idle_t full_c full_t : Bool) (o : Object) (unwritten : Bool)
     → InFault (socks users pubs) old at c t part_c rest_c part_t rest_t end_c end_t shut_c shut_t o unwritten
     → Failed (context users pubs generation config cap h marks) old

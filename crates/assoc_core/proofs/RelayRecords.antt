@@ -2,10 +2,10 @@
 use Rattle.std.proofs.Common.{◌≡◌, ℕ, ◌≤◌, Bool, true, false, ◌&&◌, not, Option, Some, None, List, [], ◌∷◌, ◌++◌, refl, sym, ap, subst, ◌∙◌, length, option_and_then, is_some}
 use mathlib.Core.List.{IsPrefix}
 use Rattle.addr_pattern.specs.declared.endpoint.Endpoint.{Endpoint}
-use Rattle.conf_model.specs.declared.config.Config.{Config}
-use Rattle.conf_model.specs.declared.protocol.Command.{Command}
-use Rattle.conf_model.specs.declared.user.User.{User}
-use Rattle.conf_model.specs.Handshake.{login_place, version_of}
+use Rattle.conf_types.specs.declared.entries.Entries.{Entries}
+use Rattle.socks_grammar.specs.declared.protocol.Command.{Command}
+use Rattle.socks_grammar.specs.declared.user.User.{User}
+use Rattle.socks_grammar.specs.Handshake.{login_place, version_of}
 use Rattle.rule_list.specs.declared.facts.Facts.{Facts}
 use Rattle.rule_list.specs.declared.verdict.Verdict.{Verdict}
 use Rattle.rule_list.specs.Rules.{numbered}
@@ -60,7 +60,7 @@ is-relayed users r at h reaches = decided-forms users r (RelayedBy users r at) (
 abbrev FactsBy : Context → Record → List Decision → Type 0
 FactsBy s r ds = option_and_then (proxy_of_grant s.basis) (granted ds) ≡ None → (at : Endpoint) → reached_at ds ≡ Some at → RelayFacts s (record r { decisions = ds })
 
-pub plain-relay-facts : (users : List User) (pubs : List Config) (generation : ℕ) (config : Config) (cap : ℕ) (h : List Line) (marks : List StopBy) (r : Record) (at : Endpoint)
+pub plain-relay-facts : (users : List User) (pubs : List Entries) (generation : ℕ) (config : Entries) (cap : ℕ) (h : List Line) (marks : List StopBy) (r : Record) (at : Endpoint)
     → IsPlainRecord users r → reached_at r.decisions ≡ Some at → r.cause ≡ None → proxy_of (socks users pubs) r ≡ None → RelayFacts (context users pubs generation config cap h marks) r
 plain-relay-facts users pubs generation config cap h marks r at plain reaches uncaused direct = decided-forms users r (FactsBy s r) (record {
   nothing = λ fresh' direct' at k. absurd (cc);

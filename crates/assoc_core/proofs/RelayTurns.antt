@@ -1,8 +1,8 @@
 -- A turn in a relay without a proxy, whole.
 use Rattle.std.proofs.Common.{◌≡◌, ℕ, ◌<◌, ◌≤◌, ◌⊎◌, inl, inr, Bool, true, false, ◌&&◌, ◌||◌, not, Option, Some, List, [], ◌++◌, refl, sym, ap, subst, ◌∙◌, length, drop, length-append, is_some}
 use Rattle.addr_pattern.specs.declared.endpoint.Endpoint.{Endpoint}
-use Rattle.conf_model.specs.declared.config.Config.{Config}
-use Rattle.conf_model.specs.declared.user.User.{User}
+use Rattle.conf_types.specs.declared.entries.Entries.{Entries}
+use Rattle.socks_grammar.specs.declared.user.User.{User}
 use Rattle.net_ends.specs.Counts.{Counts, Rose}
 use Rattle.net_ends.specs.Nets.{LookedUp, NetCounts, NetTold, Dial}
 use Rattle.net_ends.specs.Told.{Told}
@@ -160,13 +160,13 @@ pass_leaves told counts a next pass k cause = let p = k.passes in
     summed a.state p.takes_c.part p.takes_t.part p.gives_c.part p.gives_t.part p.takes_c.ends p.takes_t.ends p.gives_c.shuts p.gives_t.shuts cause
 
 -- what waits behind it for the target, and for the client
-pub waits-target : {L : Type 0} (told : L → Told) (counts : L → Counts) (users : List User) (pubs : List Config) (a : Assoc L) (next : Next L) (pass : Pass) (k : RelayTurn told counts (socks users pubs) a next pass) (cause : Option Cause)
+pub waits-target : {L : Type 0} (told : L → Told) (counts : L → Counts) (users : List User) (pubs : List Entries) (a : Assoc L) (next : Next L) (pass : Pass) (k : RelayTurn told counts (socks users pubs) a next pass) (cause : Option Cause)
     → waiting_for_target (socks users pubs) (pass_leaves told counts a next pass k cause) ≡ waiting_of [] (prelude_of a.state) k.new.c (length k.new.sent_t)
 waits-target told counts users pubs a next pass k cause = let p = k.passes in
     target-waits users pubs a.state k.at p.takes_c.part p.takes_t.part p.gives_c.part p.gives_t.part p.takes_c.ends p.takes_t.ends p.gives_c.shuts p.gives_t.shuts cause k.begun
     ∙ (λ i. waiting_of [] (prelude_of a.state) (sym p.takes_c.after' i) (length (sym p.gives_t.after' i)))
 
-pub waits-client : {L : Type 0} (told : L → Told) (counts : L → Counts) (users : List User) (pubs : List Config) (generation : ℕ) (config : Config) (cap : ℕ) (h : List Line) (marks : List StopBy)
+pub waits-client : {L : Type 0} (told : L → Told) (counts : L → Counts) (users : List User) (pubs : List Entries) (generation : ℕ) (config : Entries) (cap : ℕ) (h : List Line) (marks : List StopBy)
     (a : Assoc L) (next : Next L) (pass : Pass) (k : RelayTurn told counts (socks users pubs) a next pass) (cause : Option Cause) → is_login_failed cause ≡ false
     → waiting_for_client (socks users pubs) (pass_leaves told counts a next pass k cause)
     ≡ waiting_of (replies_by k.new.c a.state.chosen a.state.cause (reached_at a.state.decisions)) 0 k.new.t (length k.new.sent_c)
@@ -191,7 +191,7 @@ waits-client told counts users pubs generation config cap h marks a next pass k 
     began = began-same s a.state p.takes_c.part p.takes_t.part (p.takes_c.ends || a.state.end_c) (p.takes_t.ends || a.state.end_t) (granted a.state.decisions) facts ∙ facts.began
 
 pub relay-turns : {L : Type 0} (told : L → Told) (counts : L → Counts) (stands : List Line → List StopBy → Type 0)
-    (users : List User) (pubs : List Config) (generation : ℕ) (config : Config) (cap : ℕ) (h : List Line) (marks : List StopBy) (now : ℕ) (net : NetTold)
+    (users : List User) (pubs : List Entries) (generation : ℕ) (config : Entries) (cap : ℕ) (h : List Line) (marks : List StopBy) (now : ℕ) (net : NetTold)
     (a : Assoc L) (next : Next L) (pass : Pass) (k : RelayTurn told counts (socks users pubs) a next pass)
     (fault : Option Object) (unwritten : Bool) (outer : Outer) (cause at_close : Option Cause) (done : Bool) (h' : List Line) (marks' : List StopBy) → is_login_failed cause ≡ false
     → fault_of pass ≡ fault → unwritten_of pass ≡ unwritten → IsDesk outer

@@ -1,7 +1,7 @@
 -- The moment of a turn, and a turn that has fixed a cause and rests.
 use Rattle.std.proofs.Common.{◌≡◌, ℕ, zero, suc, ◌-◌, ◌⊎◌, inl, inr, Bool, true, false, ◌&&◌, ◌||◌, ◌==◌, not, if◌then◌else◌, nat_le, Option, Some, None, refl, sym, ap, subst, ◌∙◌, length, is_some, is_none, arith}
 use Rattle.std.proofs.lemmas.Bool.{lt-leb}
-use Rattle.conf_model.specs.declared.config.Config.{Config}
+use Rattle.conf_types.specs.declared.entries.Entries.{Entries}
 use Rattle.socks_machine.specs.declared.cause.Cause.{Cause}
 use Rattle.socks_machine.specs.declared.record.Record.{Record}
 use Rattle.socks_machine.specs.declared.world.NextMark.{NextMark}
@@ -29,7 +29,7 @@ pub aged-same : (basis : Basis) (e : TurnEvent) (old r : Record) → r.since ≡
 aged-same basis e old r h = λ i. record r { since = since-same (began basis r && (not (began basis old) || moves e)) e.now r.since h i }
 
 -- nothing is late at the moment of the last turn
-pub never-late : (basis : Basis) (k : Config) (now : ℕ) (r : Record) → r.since ≡ now → is_late basis k now r ≡ false
+pub never-late : (basis : Basis) (k : Entries) (now : ℕ) (r : Record) → r.since ≡ now → is_late basis k now r ≡ false
 never-late basis k now r same = early (limit basis k r)
   where
     -- a limit of 0 is none

@@ -2,9 +2,9 @@
 use Rattle.std.proofs.Common.{◌≡◌, ℕ, ◌-◌, Bool, true, false, Option, Some, None, Result, Ok, Err, List, [], ◌∷◌, ◌++◌, length, slice_set, refl, sym, ap, subst, ◌∙◌, is_some}
 use Rattle.addr_pattern.specs.declared.addr.Addr.{Addr}
 use Rattle.addr_pattern.specs.declared.host.Host.{Host}
-use Rattle.conf_model.specs.declared.config.Config.{Config}
-use Rattle.conf_model.specs.declared.user.User.{User}
-use Rattle.conf_model.specs.Handshake.{Split}
+use Rattle.conf_types.specs.declared.entries.Entries.{Entries}
+use Rattle.socks_grammar.specs.declared.user.User.{User}
+use Rattle.socks_grammar.specs.Handshake.{Split}
 use Rattle.net_ends.specs.Counts.{Counts}
 use Rattle.net_ends.specs.declared.net.Lookup.{Lookup}
 use Rattle.net_ends.specs.Nets.{LookupCause, NetTold, looked_up}
@@ -98,7 +98,7 @@ calls-lookup net net' name old new k there = by k.outcome refl
       counted = subst (λ (v : Lookup). LookupCause net.counts net'.counts v) e k.cause;
     }
 
-pub seeks-turn : {L : Type 0} (told : L → Told) (counts : L → Counts) (users : List User) (pubs : List Config) (generation : ℕ) (config : Config) (most : ℕ) (h : List Line) (marks : List StopBy)
+pub seeks-turn : {L : Type 0} (told : L → Told) (counts : L → Counts) (users : List User) (pubs : List Entries) (generation : ℕ) (config : Entries) (most : ℕ) (h : List Line) (marks : List StopBy)
     (now : ℕ) (net net' : NetTold) (a b : Assoc L) (request : RequestIs) (name : List ℕ) (s : Record) (next : Next L)
     → HasHeard told counts (socks users pubs) generation config a b None (HasAsked request) → request.host ≡ Host.Name name → (a.state).since ≡ now
     → Seeks net net' name b.state s → WritesOn told counts (record { state = s; client = b.client; target = b.target }) next

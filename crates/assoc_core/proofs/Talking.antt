@@ -3,12 +3,12 @@ use Rattle.std.proofs.Common.{◌≡◌, ◌<◌, ℕ, Bool, true, false, Option
 use Rattle.std.proofs.lemmas.List.{append-nil}
 use mathlib.Core.List.{IsPrefix}
 use Rattle.addr_pattern.specs.declared.endpoint.Endpoint.{Endpoint}
-use Rattle.conf_model.specs.declared.config.Config.{Config}
-use Rattle.conf_model.specs.declared.protocol.Method.{Method}
-use Rattle.conf_model.specs.declared.route.Route.{Route}
-use Rattle.conf_model.specs.declared.route.Via.{Via}
-use Rattle.conf_model.specs.declared.user.User.{User}
-use Rattle.conf_model.specs.Handshake.{Split}
+use Rattle.conf_types.specs.declared.entries.Entries.{Entries}
+use Rattle.socks_grammar.specs.declared.protocol.Method.{Method}
+use Rattle.conf_types.specs.declared.route.Route.{Route}
+use Rattle.conf_types.specs.declared.route.Via.{Via}
+use Rattle.socks_grammar.specs.declared.user.User.{User}
+use Rattle.socks_grammar.specs.Handshake.{Split}
 use Rattle.handshake_core.specs.Taking.{refusal_of}
 use Rattle.rule_list.specs.Rules.{numbered}
 use Rattle.socks_machine.specs.declared.cause.Cause.{Cause}
@@ -69,9 +69,9 @@ talker p c sent_c end_c chosen ds cause = record {
 -- a turn that takes x of a client, which has said c and for which this was decided, and nothing else
 pub record Speaking : Type 0 where
   pub users : List User
-  pub pubs : List Config
+  pub pubs : List Entries
   pub generation : ℕ
-  pub config : Config
+  pub config : Entries
   pub most : ℕ
   pub h : List Line
   pub marks : List StopBy
@@ -103,9 +103,9 @@ spoken_takings s ends idle full = record { c = s.x; t = []; end_c = ends; end_t 
 -- a turn that hears x of a client, which has said c
 pub record Hearing : Type 0 where
   pub users : List User
-  pub pubs : List Config
+  pub pubs : List Entries
   pub generation : ℕ
-  pub config : Config
+  pub config : Entries
   pub most : ℕ
   pub h : List Line
   pub marks : List StopBy

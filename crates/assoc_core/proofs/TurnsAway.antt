@@ -3,9 +3,9 @@ use Rattle.std.proofs.Common.{◌≡◌, ℕ, ◌<◌, Bool, true, false, ◌&&�
 use Rattle.std.proofs.lemmas.Bool.{lt-leb}
 use Rattle.std.proofs.lemmas.List.{append-nil}
 use Rattle.addr_pattern.specs.declared.front.BadKind.{BadKind}
-use Rattle.conf_model.specs.declared.config.Config.{Config}
-use Rattle.conf_model.specs.declared.user.User.{User}
-use Rattle.conf_model.specs.Handshake.{Split}
+use Rattle.conf_types.specs.declared.entries.Entries.{Entries}
+use Rattle.socks_grammar.specs.declared.user.User.{User}
+use Rattle.socks_grammar.specs.Handshake.{Split}
 use Rattle.handshake_core.specs.Taking.{refusal_of}
 use Rattle.net_ends.specs.Counts.{Counts, Rose}
 use Rattle.net_ends.specs.Faults.{Tried}
@@ -102,7 +102,7 @@ pub record Away {L : Type 0} (told : L → Told) (counts : L → Counts) (t : He
   pub all : s.sent_c ++ rest ≡ owes_now t (Some cause)
   pub ends : SendEnds (told client) (counts b.client) (counts client) rest outcome
 
-away : {L : Type 0} (told : L → Told) (counts : L → Counts) (users : List User) (pubs : List Config) (generation : ℕ) (config : Config) (most : ℕ) (h : List Line) (marks : List StopBy)
+away : {L : Type 0} (told : L → Told) (counts : L → Counts) (users : List User) (pubs : List Entries) (generation : ℕ) (config : Entries) (most : ℕ) (h : List Line) (marks : List StopBy)
     (a b : Assoc L) (client : L) (s : Record) (cause : Cause) (outcome : Sent) (k : HasHeard told counts (socks users pubs) generation config a b None (IsRefused cause))
     → s ≡ (let r = b.state in record r { sent_c = s.sent_c; cause = Some cause })
     → Sends (told b.client) (told client) (counts b.client) (counts client) (b.state).sent_c s.sent_c (drop (length (b.state).sent_c) (owed_c (let r = b.state in record r { cause = Some cause }))) outcome
@@ -160,7 +160,7 @@ pub data Closes {L : Type 0} (told : L → Told) (counts : L → Counts) (b : As
   done : outcome ≡ Sent.All → rest ≡ [] → Closes told counts b client rest outcome
   failed' : outcome ≡ Sent.Failed → 0 < length rest → (told client).unfailing ≡ false → Rose (counts b.client).faults (counts client).faults → Closes told counts b client rest outcome
 
-pub turns-away : {L : Type 0} (told : L → Told) (counts : L → Counts) (stands : List Line → List StopBy → Type 0) (users : List User) (pubs : List Config) (generation : ℕ) (config : Config) (most : ℕ) (h : List Line) (marks : List StopBy)
+pub turns-away : {L : Type 0} (told : L → Told) (counts : L → Counts) (stands : List Line → List StopBy → Type 0) (users : List User) (pubs : List Entries) (generation : ℕ) (config : Entries) (most : ℕ) (h : List Line) (marks : List StopBy)
     (now : ℕ) (net : NetTold) (a b : Assoc L) (client : L) (s : Record) (e : Ended L) (cause : Cause) (outcome : Sent)
     → HasHeard told counts (socks users pubs) generation config a b None (IsRefused cause) → (a.state).since ≡ now
     → s ≡ (let r = b.state in record r { sent_c = s.sent_c; cause = Some cause })
@@ -281,7 +281,7 @@ refusal-rests t cause y rest sent worker refuses fits e1 e2 some =
     undue : nothing_pending (basis_of t) x || false || is_quiet (Some cause) ≡ false
     undue = ap (λ b. (b && true) || false || is_quiet (Some cause)) left-over ∙ refusal-replies (split_heard t) cause refuses
 
-pub waits-away : {L : Type 0} (told : L → Told) (counts : L → Counts) (stands : List Line → List StopBy → Type 0) (users : List User) (pubs : List Config) (generation : ℕ) (config : Config) (most : ℕ) (h : List Line) (marks : List StopBy)
+pub waits-away : {L : Type 0} (told : L → Told) (counts : L → Counts) (stands : List Line → List StopBy → Type 0) (users : List User) (pubs : List Entries) (generation : ℕ) (config : Entries) (most : ℕ) (h : List Line) (marks : List StopBy)
     (now : ℕ) (net : NetTold) (a b : Assoc L) (client : L) (s : Record) (cause : Cause)
     → HasHeard told counts (socks users pubs) generation config a b None (IsRefused cause) → (a.state).since ≡ now → stands h marks
     → s ≡ (let r = b.state in record r { sent_c = s.sent_c; cause = Some cause })

@@ -1,8 +1,8 @@
 -- How many bytes wait in a relay without a proxy.
 use Rattle.std.proofs.Common.{◌≡◌, ℕ, ◌-◌, Bool, true, false, Option, List, [], ◌++◌, if◌then◌else◌, length, drop, ap, sym, ◌∙◌, length-append, arith}
 use Rattle.addr_pattern.specs.declared.endpoint.Endpoint.{Endpoint}
-use Rattle.conf_model.specs.declared.config.Config.{Config}
-use Rattle.conf_model.specs.declared.user.User.{User}
+use Rattle.conf_types.specs.declared.entries.Entries.{Entries}
+use Rattle.socks_grammar.specs.declared.user.User.{User}
 use Rattle.socks_machine.specs.declared.cause.Cause.{Cause}
 use Rattle.socks_machine.specs.declared.record.Record.{Record}
 use Rattle.socks_machine.specs.Basis.{Basis}
@@ -18,7 +18,7 @@ use Rattle.assoc_core.proofs.PlainRecords.{plain-owes-client, refused-late}
 use Rattle.assoc_core.proofs.RelayRecords.{owed-caused}
 use Rattle.assoc_core.proofs.RelaySums.{Begun, asked-of, replies-owe, summed, unfailed-yet}
 
-pub target-waits : (users : List User) (pubs : List Config) (old : Record) (at : Endpoint) (c t part_c part_t : List ℕ) (end_c end_t shut_c shut_t : Bool) (cause : Option Cause) → Begun (socks users pubs) old at
+pub target-waits : (users : List User) (pubs : List Entries) (old : Record) (at : Endpoint) (c t part_c part_t : List ℕ) (end_c end_t shut_c shut_t : Bool) (cause : Option Cause) → Begun (socks users pubs) old at
     → waiting_for_target (socks users pubs) (summed old c t part_c part_t end_c end_t shut_c shut_t cause) ≡ waiting_of [] (prelude_of old) (old.c ++ c) (length (old.sent_t ++ part_t))
 target-waits users pubs old at c t part_c part_t end_c end_t shut_c shut_t cause b =
     λ i. length (payload i) - (length (old.sent_t ++ part_t) - length (unsaid (socks users pubs) (old.t ++ t) (granted old.decisions) b.direct i))
@@ -32,7 +32,7 @@ target-waits users pubs old at c t part_c part_t end_c end_t shut_c shut_t cause
 same-length : (r p s t : List ℕ) → (r ++ p) ++ [] ≡ s ++ t → p ≡ t → length r ≡ length s
 same-length r p s t h k = omega (arith, ap (λ (z : List ℕ). length z) h, ap (λ (z : List ℕ). length z) k, length-append (r ++ p) [], length-append r p, length-append s t)
 
-pub client-waits : (users : List User) (pubs : List Config) (old : Record) (at : Endpoint) (c t part_c part_t : List ℕ) (end_c end_t shut_c shut_t : Bool) (cause : Option Cause) → Begun (socks users pubs) old at
+pub client-waits : (users : List User) (pubs : List Entries) (old : Record) (at : Endpoint) (c t part_c part_t : List ℕ) (end_c end_t shut_c shut_t : Bool) (cause : Option Cause) → Begun (socks users pubs) old at
     → is_login_failed cause ≡ false → IsPlainRecord users (summed old c t part_c part_t end_c end_t shut_c shut_t cause)
     → relay_began (socks users pubs) (summed old c t part_c part_t end_c end_t shut_c shut_t cause) ≡ true
     → waiting_for_client (socks users pubs) (summed old c t part_c part_t end_c end_t shut_c shut_t cause)

@@ -1,9 +1,9 @@
 -- What a client says until its prelude is whole or refused.
 use Rattle.std.specs.Prelude.{ℕ, ◌≡◌, ◌<◌, Bool, true, false, ◌||◌, Option, Some, None, List, [], ◌∷◌, ◌++◌, length, is_some}
-use Rattle.conf_model.specs.declared.config.Config.{Config}
-use Rattle.conf_model.specs.declared.protocol.Method.{Method}
-use Rattle.conf_model.specs.Handshake.{Split}
-use Rattle.conf_model.specs.Plain.{IsPlain}
+use Rattle.conf_types.specs.declared.entries.Entries.{Entries}
+use Rattle.socks_grammar.specs.declared.protocol.Method.{Method}
+use Rattle.socks_grammar.specs.Handshake.{Split}
+use Rattle.conf_types.specs.Plain.{IsPlain}
 use Rattle.handshake_core.specs.Answers.{request_in}
 use Rattle.handshake_core.specs.Taking.{refusal_of}
 use Rattle.net_ends.specs.Counts.{Counts, Later, Rose}
@@ -65,7 +65,7 @@ pub record Hears (old new : Told) (counts counts' : Counts) (before after : List
   pub ends : HearingEnds new counts counts' heard
 
 -- b is a with what was heard of its client, which was let in and had no cause; nothing is heard where its name was looked up
-pub record HasHeard {L : Type 0} (told : L → Told) (counts : L → Counts) (basis : Basis) (generation : ℕ) (config : Config) (a b : Assoc L) (sought : Option Sought) (heard : Heard) : Type 0 where
+pub record HasHeard {L : Type 0} (told : L → Told) (counts : L → Counts) (basis : Basis) (generation : ℕ) (config : Entries) (a b : Assoc L) (sought : Option Sought) (heard : Heard) : Type 0 where
   pub stands : Stands told basis a
   pub served : TellsServed basis.users (told a.client)
   pub published : numbered basis.pubs generation ≡ Some config

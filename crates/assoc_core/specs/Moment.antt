@@ -1,6 +1,6 @@
 -- The moment of an association's last movement, and its limit of time.
 use Rattle.std.specs.Prelude.{ℕ, ◌-◌, ◌==◌, Bool, ◌&&◌, ◌||◌, not, nat_le, if◌then◌else◌, Option, Some, None, length, is_some}
-use Rattle.conf_model.specs.declared.config.Config.{Config}
+use Rattle.conf_types.specs.declared.entries.Entries.{Entries}
 use Rattle.socks_machine.specs.declared.cause.Cause.{Cause}
 use Rattle.socks_machine.specs.declared.record.Record.{Record}
 use Rattle.socks_machine.specs.Decisions.{reached_at}
@@ -22,14 +22,14 @@ abbrev pub at_moment : Movement → ℕ → Record → Record
 at_moment before now r = record r { since = moment before now r }
 
 -- the limit that counts, in seconds; 0 is none
-abbrev pub limit_of : Config → Record → ℕ
+abbrev pub limit_of : Entries → Record → ℕ
 limit_of k r = if is_some (reached_at r.decisions) then k.io else k.negotiate
 
 -- nothing has moved for as long as the limit says
-abbrev pub is_late_by : Config → ℕ → Record → Bool
+abbrev pub is_late_by : Entries → ℕ → Record → Bool
 is_late_by k now r = not (limit_of k r == 0) && nat_le (limit_of k r) (now - r.since)
 
 -- the cause that stands, or that the time is over
-abbrev pub cause_by : Config → ℕ → Record → Option Cause → Cause
+abbrev pub cause_by : Entries → ℕ → Record → Option Cause → Cause
 cause_by k now r (Some cause) = cause
 cause_by k now r None = Cause.TimedOut r.since now (limit_of k r)

@@ -1,8 +1,8 @@
 -- What one turn comes to.
 use Rattle.std.specs.Prelude.{ℕ, ◌+◌, ◌≡◌, ◌≢◌, ◌<◌, ◌≤◌, Bool, true, false, ◌||◌, Option, Some, None, List, [], ◌∷◌, ◌++◌, length, is_some}
-use Rattle.conf_model.specs.declared.config.Config.{Config}
-use Rattle.conf_model.specs.declared.protocol.Command.{Command}
-use Rattle.conf_model.specs.declared.user.User.{User}
+use Rattle.conf_types.specs.declared.entries.Entries.{Entries}
+use Rattle.socks_grammar.specs.declared.protocol.Command.{Command}
+use Rattle.socks_grammar.specs.declared.user.User.{User}
 use Rattle.net_ends.specs.Counts.{Counts, Rose}
 use Rattle.net_ends.specs.Faults.{Tried}
 use Rattle.net_ends.specs.declared.kinds.Kind.{Kind}
@@ -322,7 +322,7 @@ pub record Turns {L : Type 0} (told : L → Told) (counts : L → Counts) (stand
 
 -- what a turn is made over: the users and the published configurations, the generation that was seen with its
 -- configuration, and the desk's history
-abbrev pub context : List User → List Config → ℕ → Config → ℕ → List Line → List StopBy → Context
+abbrev pub context : List User → List Entries → ℕ → Entries → ℕ → List Line → List StopBy → Context
 context users pubs generation config cap h marks = record {
   basis = socks users pubs;
   generation = generation;

@@ -1,8 +1,7 @@
 ghost use Rattle.std.specs.Prelude.{◌≡◌, ℕ, [], List, IfOk};
-ghost use Rattle.conf_model.specs.declared.config.Config.{Config};
-ghost use Rattle.conf_model.specs.declared.user.User.{User};
+ghost use Rattle.conf_types.specs.declared.entries.Entries.{Entries};
+ghost use Rattle.socks_grammar.specs.declared.user.User.{User};
 ghost use Rattle.net_ends.specs.Nets.{NetTold};
-ghost use Rattle.rule_list.specs.Numbers.{FitsNumbers};
 ghost use Rattle.socks_machine.specs.declared.lines.Line.{Line};
 ghost use Rattle.socks_machine.specs.declared.cause.StopBy.{StopBy};
 ghost use Rattle.socks_machine.specs.Socks.{socks};
@@ -12,7 +11,7 @@ ghost use Rattle.assoc_core.specs.Turns.{Turns, context};
 
 use crate::assoc::{Assoc, Next};
 use crate::refusals::{blocked_client, first_cause, refusal_said};
-use conf_model::Config;
+use conf_types::Config;
 use net_ends::Link;
 use rule_list::{client_passes, first_client};
 use session_desk::DeskCall;
@@ -21,7 +20,6 @@ use std::alloc::AllocError;
 
 /// The line of a client that came.
 fn line_of(state: &Record, generation: u64, config: &Config) -> OpenLine
-    requires { FitsNumbers config.now }
     ensures { result ≡ client_line generation config.now state.now }
 {
     let rule = first_client(config, &state.peer, &state.local);
@@ -44,9 +42,8 @@ impl<L: Link + Drop> Assoc<L> {
         config: &Config,
         desk: &mut K,
     ) -> Result<Next<L>, AllocError>
-        requires { FitsNumbers config.now }
         ensures cap { K.cap desk.new ≡ K.cap desk.old }
-        ensures turns { IfOk result (λ next. (users : List User) (pubs : List Config) (h : List Line) (marks : List StopBy) (net : NetTold) (now : ℕ) → K.stands desk.old h marks → Stands L.told (socks users pubs) self → TellsServed users (L.told self.client) → self.state.since ≡ now → self.state.decisions ≡ [] → Turns L.told L.counts (K.stands desk.new) (context users pubs generation config.now (K.cap desk.old) h marks) now net net self next) }
+        ensures turns { IfOk result (λ next. (users : List User) (pubs : List Entries) (h : List Line) (marks : List StopBy) (net : NetTold) (now : ℕ) → K.stands desk.old h marks → Stands L.told (socks users pubs) self → TellsServed users (L.told self.client) → self.state.since ≡ now → self.state.decisions ≡ [] → Turns L.told L.counts (K.stands desk.new) (context users pubs generation config.now (K.cap desk.old) h marks) now net net self next) }
     {
         let line = line_of(&self.state, generation, config);
         let rule = line.rule;

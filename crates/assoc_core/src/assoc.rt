@@ -3,7 +3,7 @@ ghost use Rattle.socks_machine.specs.Step.{fresh};
 ghost use Rattle.assoc_core.specs.declared.assoc.OpenFault.TheVariants.{Memory};
 
 use addr_pattern::Endpoint;
-use conf_text::{List, Text};
+use lists::{List, Text};
 use net_ends::Link;
 use socks_machine::Record;
 use std::alloc::Global;

@@ -6,15 +6,12 @@ use crate::due::Due;
 use crate::read::{More, read_more};
 use crate::relay::behind;
 use crate::send::{Sent, send_pending};
-use conf_text::Text;
-use net_ends::{Link, Shutting};
+use lists::Text;
+use net_ends::{Link, PIECE, Shutting};
 use std::alloc::{AllocError, Global};
 
 /// How many bytes one turn reads of a side at most.
 pub const QUANTUM: usize = 65536;
-
-/// A source is read only where fewer bytes than these wait for its sink.
-const PIPE: usize = 16384;
 
 /// Why nothing more was read of a source.
 #[derive(Clone, Copy, Debug, PartialEq, Eq)]
@@ -71,14 +68,14 @@ fn make_room<L: Link>(
 ) -> Result<Option<Give>, AllocError>
     ensures { IfOk result (λ stopped. MakesRoom (L.told link.old) (L.told link.new) (L.counts link.old) (L.counts link.new) due.now.front due.now.skip text.now sent.old sent.new stopped) }
 {
-    if due.waiting(text, sent.len()) < PIPE {
+    if due.waiting(text, sent.len()) < PIECE {
         return Ok(None);
     }
     let outcome = send_owed(alloc, link, sent, due, text)?;
     if let Sent::Failed = outcome {
         return Ok(Some(Give::Unwritten));
     }
-    if due.waiting(text, sent.len()) < PIPE {
+    if due.waiting(text, sent.len()) < PIECE {
         return Ok(None);
     }
     Ok(Some(Give::Full))

@@ -1,6 +1,6 @@
 ghost use Rattle.std.specs.Prelude.{◌≡◌, ◌&&◌, ◌||◌, not, ℕ, List, IfOk, Some};
-ghost use Rattle.conf_model.specs.declared.config.Config.{Config};
-ghost use Rattle.conf_model.specs.declared.user.User.{User};
+ghost use Rattle.conf_types.specs.declared.entries.Entries.{Entries};
+ghost use Rattle.socks_grammar.specs.declared.user.User.{User};
 ghost use Rattle.net_ends.specs.Nets.{NetTold};
 ghost use Rattle.socks_machine.specs.declared.cause.StopBy.{StopBy};
 ghost use Rattle.socks_machine.specs.declared.lines.Line.{Line};
@@ -94,7 +94,7 @@ impl<L: Link + Drop> Assoc<L> {
     ) -> Result<Next<L>, AllocError>
         requires { self.state.cause ≡ Some cause }
         ensures cap { IfOk result (λ next. D.cap desk.new ≡ D.cap desk.old) }
-        ensures turns { IfOk result (λ next. (users : List User) (pubs : List Config) (generation : ℕ) (config : Config) (now : ℕ) (net : NetTold) (h : List Line) (marks : List StopBy)
+        ensures turns { IfOk result (λ next. (users : List User) (pubs : List Entries) (generation : ℕ) (config : Entries) (now : ℕ) (net : NetTold) (h : List Line) (marks : List StopBy)
             → D.stands desk.old h marks → Stands L.told (socks users pubs) self → self.state.since ≡ now
             → Turns L.told L.counts (D.stands desk.new) (context users pubs generation config (D.cap desk.old) h marks) now net net self next) }
     {

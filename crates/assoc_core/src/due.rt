@@ -2,7 +2,7 @@ ghost use Rattle.std.specs.Prelude.{◌≡◌, ◌-◌, length, drop};
 ghost use Rattle.assoc_core.specs.Carrying.{waiting_of};
 
 use crate::relay::behind;
-use conf_text::Text;
+use lists::Text;
 
 /// What a sink is owed: a front, and then the bytes of a text behind a place.
 #[derive(Drop)]

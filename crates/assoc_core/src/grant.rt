@@ -1,5 +1,4 @@
 ghost use Rattle.std.specs.Prelude.{◌≡◌, List, OnOk};
-ghost use Rattle.rule_list.specs.Numbers.{FitsNumbers};
 ghost use Rattle.socks_machine.specs.declared.lines.Line.{Line};
 ghost use Rattle.socks_machine.specs.declared.cause.StopBy.{StopBy};
 ghost use Rattle.socks_machine.specs.Calls.{client_rule_of as client_rule_in, socks_rule_of as socks_rule_in};
@@ -10,7 +9,7 @@ ghost use Rattle.assoc_core.specs.Granting.{AsksGrant, request_line};
 
 use crate::refusals::{blocked, first_cause, refusal_full};
 use addr_pattern::{Addr, Endpoint, Host, Name};
-use conf_model::Config;
+use conf_types::Config;
 use handshake_core::Request;
 use rule_list::{Facts, Verdict, client_max, first_route, judge, socks_max};
 use session_desk::DeskCall;
@@ -100,7 +99,6 @@ fn socks_rule_of(verdict: Verdict) -> Option<u32>
 
 /// The line of a request that was judged.
 fn line_of(state: &Record, generation: u64, config: &Config, request: &Request) -> GrantLine
-    requires fits { FitsNumbers config.now }
     ensures { result ≡ request_line generation config.now state.now (request_in request.now) }
 {
     let facts = facts_of(state, request);
@@ -123,7 +121,6 @@ pub fn ask_grant<K: DeskCall>(
     desk: &mut K,
     request: &Request,
 ) -> Result<(), AllocError>
-    requires fits { FitsNumbers config.now }
     ensures cap { K.cap desk.new ≡ K.cap desk.old }
     ensures asks { OnOk result ((h : List Line) (marks : List StopBy) → K.stands desk.old h marks → AsksGrant (K.stands desk.new) h marks generation config.now (request_in request.now) state.old state.new) }
 {

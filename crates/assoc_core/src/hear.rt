@@ -1,19 +1,16 @@
 ghost use Rattle.std.specs.Prelude.{◌≡◌, None, IfOk};
-ghost use Rattle.conf_model.specs.Handshake.{split};
+ghost use Rattle.socks_grammar.specs.Handshake.{split};
 ghost use Rattle.handshake_core.specs.Due.{method_after};
 ghost use Rattle.assoc_core.specs.Hearing.{HeardAs, Hears, chosen_as, methods_by as methods_in};
 
 use crate::read::{More, read_more};
-use conf_model::Method;
-use conf_text::Text;
 use handshake_core::{Handshake, Request, Taken};
-use net_ends::Link;
+use lists::Text;
+use net_ends::{Link, PIECE};
+use socks_grammar::Method;
 use socks_machine::{Cause, Chosen};
 use std::alloc::{AllocError, Global};
 use user_login::Users;
-
-/// How many bytes one read of a client that talks asks for.
-const PIECE: usize = 16384;
 
 /// Why nothing more is read of a client that talks.
 #[derive(Drop)]

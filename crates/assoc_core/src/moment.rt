@@ -1,6 +1,6 @@
 ghost use Rattle.std.specs.Prelude.{◌≡◌, ℕ, List, not};
-ghost use Rattle.conf_model.specs.declared.user.User.{User};
-ghost use Rattle.conf_model.specs.declared.config.Config.{Config as SomeConfig};
+ghost use Rattle.socks_grammar.specs.declared.user.User.{User};
+ghost use Rattle.conf_types.specs.declared.entries.Entries.{Entries};
 ghost use Rattle.net_ends.specs.Nets.{NetTold};
 ghost use Rattle.socks_machine.specs.declared.lines.Line.{Line};
 ghost use Rattle.socks_machine.specs.declared.cause.StopBy.{StopBy};
@@ -11,7 +11,7 @@ ghost use Rattle.assoc_core.specs.Turns.{Turns, context};
 
 use crate::assoc::{Assoc, Next};
 use crate::replies::reached_at;
-use conf_model::Config;
+use conf_types::Config;
 use net_ends::Link;
 use session_desk::DeskCall;
 use socks_machine::{Cause, Record};
@@ -72,9 +72,9 @@ fn limit_of(config: &Config, state: &Record) -> u32
     ensures { result ≡ limit_by config.now state.now }
 {
     if is_reached(state) {
-        config.io
+        config.entries().io
     } else {
-        config.negotiate
+        config.entries().negotiate
     }
 }
 
@@ -111,7 +111,7 @@ impl<L: Link + Drop> Next<L> {
         desk: &mut D,
     ) -> Next<L>
         ensures cap { D.cap desk.new ≡ D.cap desk.old }
-        ensures turns { (users : List User) (pubs : List SomeConfig) (generation cap : ℕ) (h : List Line) (marks : List StopBy) (net net' : NetTold) (a : Assoc L)
+        ensures turns { (users : List User) (pubs : List Entries) (generation cap : ℕ) (h : List Line) (marks : List StopBy) (net net' : NetTold) (a : Assoc L)
             → Turns L.told L.counts (D.stands desk.old) (context users pubs generation config.now cap h marks) a.state.since net net' a self → GoesDirect (socks users pubs) a.state.decisions → before ≡ movement a.state
             → Turns L.told L.counts (D.stands desk.new) (context users pubs generation config.now cap h marks) now net net' a result }
     {

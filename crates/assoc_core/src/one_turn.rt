@@ -1,7 +1,6 @@
 ghost use Rattle.std.specs.Prelude.{ℕ, ◌≡◌, Some, List as Items, IfOk};
-ghost use Rattle.conf_model.specs.declared.config.Config.{Config as SomeConfig};
-ghost use Rattle.conf_model.specs.Plain.{IsPlain};
-ghost use Rattle.rule_list.specs.Numbers.{FitsNumbers};
+ghost use Rattle.conf_types.specs.declared.entries.Entries.{Entries};
+ghost use Rattle.conf_types.specs.Plain.{IsPlain};
 ghost use Rattle.rule_list.specs.Rules.{numbered};
 ghost use Rattle.socks_machine.specs.declared.cause.StopBy.{StopBy};
 ghost use Rattle.socks_machine.specs.declared.lines.Line.{Line};
@@ -14,7 +13,7 @@ use crate::assoc::{Assoc, Next};
 use crate::moment::Movement;
 use crate::reach::reach_target;
 use crate::talk::talk;
-use conf_model::Config;
+use conf_types::Config;
 use net_ends::Net;
 use session_desk::DeskCall;
 use socks_machine::Decision;
@@ -58,9 +57,8 @@ fn turn_in_time<N: Net, K: DeskCall>(
 ) -> Result<Next<N::Link>, AllocError>
 where
     N::Link: Drop,
-    requires { FitsNumbers config.now }
     ensures cap { IfOk result (λ next. K.cap desk.new ≡ K.cap desk.old) }
-    ensures turns { IfOk result (λ next. (pubs : Items SomeConfig) (h : Items Line) (marks : Items StopBy)
+    ensures turns { IfOk result (λ next. (pubs : Items Entries) (h : Items Line) (marks : Items StopBy)
         → K.stands desk.old h marks → Stands N.Link.told (socks users.now pubs) a → TellsServed users.now (N.Link.told a.client) → numbered pubs generation ≡ Some config.now → IsPlain config.now
         → Turns N.Link.told N.Link.counts (K.stands desk.new) (context users.now pubs generation config.now (K.cap desk.old) h marks) a.state.since (N.told net.old) (N.told net.new) a next) }
 {
@@ -92,9 +90,8 @@ pub fn turn<N: Net, K: DeskCall>(
 ) -> Result<Next<N::Link>, AllocError>
 where
     N::Link: Drop,
-    requires { FitsNumbers config.now }
     ensures cap { IfOk result (λ next. K.cap desk.new ≡ K.cap desk.old) }
-    ensures turns { IfOk result (λ next. (pubs : Items SomeConfig) (h : Items Line) (marks : Items StopBy)
+    ensures turns { IfOk result (λ next. (pubs : Items Entries) (h : Items Line) (marks : Items StopBy)
         → K.stands desk.old h marks → Stands N.Link.told (socks users.now pubs) a → TellsServed users.now (N.Link.told a.client) → numbered pubs generation ≡ Some config.now → IsPlain config.now
         → Turns N.Link.told N.Link.counts (K.stands desk.new) (context users.now pubs generation config.now (K.cap desk.old) h marks) now (N.told net.old) (N.told net.new) a next) }
 {

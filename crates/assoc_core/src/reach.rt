@@ -1,7 +1,7 @@
 ghost use Rattle.std.specs.Prelude.{◌≡◌, ℕ, Bool, Some, None, Option, List, [], ◌∷◌, IfOk, option_map, drop, length};
 ghost use Rattle.addr_pattern.specs.declared.endpoint.Endpoint.{Endpoint};
-ghost use Rattle.conf_model.specs.declared.config.Config.{Config};
-ghost use Rattle.conf_model.specs.declared.user.User.{User};
+ghost use Rattle.conf_types.specs.declared.entries.Entries.{Entries};
+ghost use Rattle.socks_grammar.specs.declared.user.User.{User};
 ghost use Rattle.net_ends.specs.Nets.{NetTold, DialOutcome};
 ghost use Rattle.rule_list.specs.declared.facts.Facts.{Facts};
 ghost use Rattle.rule_list.specs.declared.verdict.Verdict.{Verdict};
@@ -57,7 +57,7 @@ fn send_to_target<L: Link>(
 impl<L: Link + Drop> Assoc<L> {
     /// The target is reached: the reply of success is written, and what the client has sent behind its prelude.
     fn greet(mut self, alloc: Global, link: L) -> Result<Next<L>, AllocError>
-        ensures { IfOk result (λ next. (users : List User) (pubs : List Config) (generation : ℕ) (config : Config) (cap : ℕ) (h : List Line) (marks : List StopBy) (net net' : NetTold) (now : ℕ) (a : Assoc L) (local : Endpoint) → HasDialled L.told (socks users pubs) net net' now a self (DialOutcome.CameUp local) → IsNewLink (L.told link) (L.counts link) net → Turns L.told L.counts (SameDesk h marks) (context users pubs generation config cap h marks) now net net' a next) }
+        ensures { IfOk result (λ next. (users : List User) (pubs : List Entries) (generation : ℕ) (config : Entries) (cap : ℕ) (h : List Line) (marks : List StopBy) (net net' : NetTold) (now : ℕ) (a : Assoc L) (local : Endpoint) → HasDialled L.told (socks users pubs) net net' now a self (DialOutcome.CameUp local) → IsNewLink (L.told link) (L.counts link) net → Turns L.told L.counts (SameDesk h marks) (context users pubs generation config cap h marks) now net net' a next) }
     {
         match send_to_client(alloc, &mut self.state, &mut self.client)? {
             Sent::All => self.send_payload(alloc, link),
@@ -72,7 +72,7 @@ impl<L: Link + Drop> Assoc<L> {
 
     /// What the client has sent behind its prelude is written to a new target.
     fn send_payload(mut self, alloc: Global, mut link: L) -> Result<Next<L>, AllocError>
-        ensures { IfOk result (λ next. (users : List User) (pubs : List Config) (generation : ℕ) (config : Config) (cap : ℕ) (h : List Line) (marks : List StopBy) (net net' : NetTold) (now : ℕ) (a b : Assoc L) (local : Endpoint) (full : Bool) → HasDialled L.told (socks users pubs) net net' now a b (DialOutcome.CameUp local) → IsNewLink (L.told link) (L.counts link) net → HasGreeted L.told L.counts b self full → Turns L.told L.counts (SameDesk h marks) (context users pubs generation config cap h marks) now net net' a next) }
+        ensures { IfOk result (λ next. (users : List User) (pubs : List Entries) (generation : ℕ) (config : Entries) (cap : ℕ) (h : List Line) (marks : List StopBy) (net net' : NetTold) (now : ℕ) (a b : Assoc L) (local : Endpoint) (full : Bool) → HasDialled L.told (socks users pubs) net net' now a b (DialOutcome.CameUp local) → IsNewLink (L.told link) (L.counts link) net → HasGreeted L.told L.counts b self full → Turns L.told L.counts (SameDesk h marks) (context users pubs generation config cap h marks) now net net' a next) }
     {
         match send_to_target(alloc, &mut self.state, &mut link)? {
             Sent::All => {
@@ -93,7 +93,7 @@ impl<L: Link + Drop> Assoc<L> {
 
     /// The target isn't reached: the refusal is written.
     fn refuse(mut self, alloc: Global, cause: Cause) -> Result<Next<L>, AllocError>
-        ensures { IfOk result (λ next. (users : List User) (pubs : List Config) (generation : ℕ) (config : Config) (cap : ℕ) (h : List Line) (marks : List StopBy) (net net' : NetTold) (now : ℕ) (a : Assoc L) (outcome : DialOutcome) → HasDialled L.told (socks users pubs) net net' now a self outcome → cause_of outcome ≡ Some cause → Turns L.told L.counts (SameDesk h marks) (context users pubs generation config cap h marks) now net net' a next) }
+        ensures { IfOk result (λ next. (users : List User) (pubs : List Entries) (generation : ℕ) (config : Entries) (cap : ℕ) (h : List Line) (marks : List StopBy) (net net' : NetTold) (now : ℕ) (a : Assoc L) (outcome : DialOutcome) → HasDialled L.told (socks users pubs) net net' now a self outcome → cause_of outcome ≡ Some cause → Turns L.told L.counts (SameDesk h marks) (context users pubs generation config cap h marks) now net net' a next) }
     {
         self.state.cause = first_cause(Some(cause), self.state.cause);
         self.write_on(alloc)
@@ -108,7 +108,7 @@ pub(crate) fn reach_target<N: Net>(
 ) -> Result<Next<N::Link>, AllocError>
 where
     N::Link: Drop,
-    ensures { IfOk result (λ next. (users : List User) (pubs : List Config) (generation : ℕ) (config : Config) (cap : ℕ) (h : List Line) (marks : List StopBy) (now g g' : ℕ) (rule : Option ℕ) (sought : Option Sought) (facts : Facts) (verdict : Verdict) (route : Option ℕ) → Stands N.Link.told (socks users pubs) assoc → assoc.state.since ≡ now → assoc.state.cause ≡ None → assoc.state.decisions ≡ Decision.Opened g rule None ∷ behind_lookup sought (Decision.Granted g' facts verdict route None ∷ []) → Turns N.Link.told N.Link.counts (SameDesk h marks) (context users pubs generation config cap h marks) now (N.told net.old) (N.told net.new) assoc next) }
+    ensures { IfOk result (λ next. (users : List User) (pubs : List Entries) (generation : ℕ) (config : Entries) (cap : ℕ) (h : List Line) (marks : List StopBy) (now g g' : ℕ) (rule : Option ℕ) (sought : Option Sought) (facts : Facts) (verdict : Verdict) (route : Option ℕ) → Stands N.Link.told (socks users pubs) assoc → assoc.state.since ≡ now → assoc.state.cause ≡ None → assoc.state.decisions ≡ Decision.Opened g rule None ∷ behind_lookup sought (Decision.Granted g' facts verdict route None ∷ []) → Turns N.Link.told N.Link.counts (SameDesk h marks) (context users pubs generation config cap h marks) now (N.told net.old) (N.told net.new) assoc next) }
 {
     let Some(to) = granted_to(assoc.state.decisions.as_slice()) else {
         // Nothing was granted: nothing is dialled.

@@ -4,13 +4,10 @@ ghost use Rattle.net_ends.specs.Faults.{ReadTried};
 ghost use Rattle.net_ends.specs.Told.{GivesArrived};
 ghost use Rattle.assoc_core.specs.Reads.{ReadsMore, reading_of};
 
-use conf_text::Text;
-use net_ends::{Link, Reading};
+use lists::Text;
+use net_ends::{Link, PIECE, Reading};
 use std::alloc::{AllocError, Global};
 use std::mem;
-
-/// How many bytes one read asks for at most.
-const PIECE: usize = 16384;
 
 /// What came of one read into a text.
 #[derive(Clone, Copy, Debug, PartialEq, Eq)]

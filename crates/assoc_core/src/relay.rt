@@ -1,7 +1,7 @@
 ghost use Rattle.std.specs.Prelude.{◌≡◌, ◌&&◌, ◌||◌, not, ℕ, List, IfOk, drop, option_map};
 ghost use Rattle.addr_pattern.specs.declared.endpoint.Endpoint.{Endpoint};
-ghost use Rattle.conf_model.specs.declared.config.Config.{Config};
-ghost use Rattle.conf_model.specs.declared.user.User.{User};
+ghost use Rattle.conf_types.specs.declared.entries.Entries.{Entries};
+ghost use Rattle.socks_grammar.specs.declared.user.User.{User};
 ghost use Rattle.net_ends.specs.Nets.{NetTold};
 ghost use Rattle.socks_machine.specs.declared.cause.StopBy.{StopBy};
 ghost use Rattle.socks_machine.specs.declared.lines.Line.{Line};
@@ -17,7 +17,7 @@ use crate::carry::{Give, Take, give_rest, take_from};
 use crate::due::Due;
 use crate::prelude::prelude_in;
 use crate::replies::replies_to_client;
-use conf_text::Text;
+use lists::Text;
 use net_ends::Link;
 use session_desk::DeskCall;
 use socks_machine::{Cause, Record};
@@ -217,7 +217,7 @@ impl<L: Link + Drop> Assoc<L> {
         desk: &mut D,
     ) -> Result<Next<L>, AllocError>
         ensures cap { IfOk result (λ next. D.cap desk.new ≡ D.cap desk.old) }
-        ensures turns { IfOk result (λ next. (users : List User) (pubs : List Config) (generation : ℕ) (config : Config) (now : ℕ) (net : NetTold) (h : List Line) (marks : List StopBy) (at : Endpoint)
+        ensures turns { IfOk result (λ next. (users : List User) (pubs : List Entries) (generation : ℕ) (config : Entries) (now : ℕ) (net : NetTold) (h : List Line) (marks : List StopBy) (at : Endpoint)
             → D.stands desk.old h marks → Stands L.told (socks users pubs) self → self.state.since ≡ now
             → first_reached self.state.decisions ≡ Some at → self.state.cause ≡ None
             → Turns L.told L.counts (D.stands desk.new) (context users pubs generation config (D.cap desk.old) h marks) now net net self next) }

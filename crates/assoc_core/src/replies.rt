@@ -1,20 +1,22 @@
 ghost use Rattle.std.specs.Prelude.{◌≡◌, ◌∷◌, ◌++◌, ◌≤◌, IfOk, OnOk, false, length, drop};
-ghost use Rattle.conf_model.specs.Grammar.{spelled_addr, spelled_endpoint};
-ghost use Rattle.conf_model.specs.declared.protocol.Command.{Command};
-ghost use Rattle.conf_model.specs.Handshake.{version_of as first_version};
+ghost use Rattle.socks_grammar.specs.declared.protocol.Command.{Command};
+ghost use Rattle.socks_grammar.specs.Handshake.{version_of as first_version};
 ghost use Rattle.socks_machine.specs.Decisions.{reached_at as first_reached};
-ghost use Rattle.socks_machine.specs.Replies.{refusal, failing_reply, answer_to as answer_due};
+ghost use Rattle.socks_machine.specs.Replies.{refusal, answer_to as answer_due};
 ghost use Rattle.socks_machine.specs.Socks.{chosen_reply, passed_reply, is_in_login as in_login_by, success};
 ghost use Rattle.socks_machine.specs.View.{asks_login as login_is_asked};
 ghost use Rattle.assoc_core.specs.Plain.{owed_c, replies_by, opening_owed, has_passed as passes, is_login_failed as fails_login, refused_at};
 ghost use Rattle.assoc_core.specs.Answered.{answer_of};
 
-use addr_pattern::{Addr, Endpoint};
-use conf_model::Version;
-use conf_text::Text;
-use handshake_core::{greeting_length, has_login};
+use addr_pattern::Endpoint;
+use handshake_core::{failing_reply, greeting_length, has_login};
+use lists::Text;
+use socks_grammar::Version;
 use socks_machine::{Cause, Chosen, Decision, Record};
+use socks4_codec::{Reply4, write_reply4};
+use socks5_codec::{write_method, write_reply5};
 use std::alloc::{AllocError, Global};
+use user_login::write_status;
 
 /// The bytes from a place on.
 pub fn rest_from(bytes: &[u8], at: usize) -> &[u8]
@@ -84,7 +86,7 @@ fn add_method_reply(owed: &mut Text, chosen: Option<Chosen>) -> Result<(), Alloc
     ensures { OnOk result (owed.new ≡ owed.old ++ chosen_reply chosen) }
 {
     match chosen {
-        Some(chosen) if chosen.method != 255 => owed.add(&[5, chosen.method]),
+        Some(chosen) if chosen.method != 255 => owed.add(write_method(chosen.method).as_slice()),
         _ => Ok(()),
     }
 }
@@ -100,35 +102,9 @@ fn add_opening(
 {
     add_method_reply(owed, chosen)?;
     if has_passed(chosen, c, cause) {
-        owed.add(&[1, 0])?;
+        owed.add(write_status(0).as_slice())?;
     }
     Ok(())
-}
-
-/// Bytes with their type before them.
-fn add_typed(owed: &mut Text, kind: u8, bytes: &[u8]) -> Result<(), AllocError>
-    ensures { OnOk result (owed.new ≡ owed.old ++ kind ∷ bytes.now) }
-{
-    owed.add(&[kind])?;
-    owed.add(bytes)
-}
-
-/// Spells an address with its type (RFC 1928, section 5).
-fn add_addr(owed: &mut Text, addr: Addr) -> Result<(), AllocError>
-    ensures { OnOk result (owed.new ≡ owed.old ++ spelled_addr addr) }
-{
-    match addr {
-        Addr::V4(n) => add_typed(owed, 1, &n.to_be_bytes()),
-        Addr::V6(n) => add_typed(owed, 4, &n.to_be_bytes()),
-    }
-}
-
-/// Spells an endpoint (RFC 1928, section 6).
-fn add_endpoint(owed: &mut Text, at: Endpoint) -> Result<(), AllocError>
-    ensures { OnOk result (owed.new ≡ owed.old ++ spelled_endpoint at) }
-{
-    add_addr(owed, at.addr)?;
-    owed.add(&at.port.to_be_bytes())
 }
 
 /// The reply of success to a CONNECT (RFC 1928, section 6).
@@ -137,21 +113,15 @@ fn add_success(owed: &mut Text, c: &[u8], at: Endpoint) -> Result<(), AllocError
 {
     match version_of(c) {
         None => Ok(()),
-        Some(Version::V4) => owed.add(&[0, 90, 0, 0, 0, 0, 0, 0]),
-        Some(Version::V5) => {
-            owed.add(&[5, 0, 0])?;
-            add_endpoint(owed, at)
+        Some(Version::V4) => {
+            let granted = Reply4 {
+                code: 90,
+                port: 0,
+                addr: 0,
+            };
+            owed.add(write_reply4(&granted).as_slice())
         }
-    }
-}
-
-/// A failing reply of either version.
-fn add_failing_reply(owed: &mut Text, version: Version, code: u8) -> Result<(), AllocError>
-    ensures { OnOk result (owed.new ≡ owed.old ++ failing_reply version code) }
-{
-    match version {
-        Version::V4 => owed.add(&[0, 91, 0, 0, 0, 0, 0, 0]),
-        Version::V5 => owed.add(&[5, code, 0, 1, 0, 0, 0, 0, 0, 0]),
+        Some(Version::V5) => owed.add(write_reply5(0, &at).as_slice()),
     }
 }
 
@@ -211,7 +181,7 @@ fn add_refusal(
         return Ok(());
     };
     match answer_to(is_in_login(chosen, c, cause), cause) {
-        Reply::Code(code) => add_failing_reply(owed, version, code),
+        Reply::Code(code) => owed.add(failing_reply(version, code).as_slice()),
         Reply::Bytes(first, second) => owed.add(&[first, second]),
         Reply::Silence => Ok(()),
     }

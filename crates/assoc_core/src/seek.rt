@@ -1,6 +1,6 @@
 ghost use Rattle.std.specs.Prelude.{◌≡◌, ℕ, None, Some, Option, List, IfOk};
-ghost use Rattle.conf_model.specs.declared.config.Config.{Config};
-ghost use Rattle.conf_model.specs.declared.user.User.{User};
+ghost use Rattle.conf_types.specs.declared.entries.Entries.{Entries};
+ghost use Rattle.socks_grammar.specs.declared.user.User.{User};
 ghost use Rattle.addr_pattern.specs.declared.host.Host.TheVariants.{Name as ByName};
 ghost use Rattle.socks_machine.specs.declared.lines.Line.{Line};
 ghost use Rattle.socks_machine.specs.declared.cause.StopBy.{StopBy};
@@ -50,7 +50,7 @@ pub(crate) fn seek<N: Net>(
 ) -> Result<Next<N::Link>, AllocError>
 where
     N::Link: Drop,
-    ensures { IfOk result (λ next. (users : List User) (pubs : List Config) (generation : ℕ) (config : Config) (cap : ℕ) (h : List Line) (marks : List StopBy) (now : ℕ) (a : SomeAssoc N.Link) (request : Request) → HasHeard N.Link.told N.Link.counts (socks users pubs) generation config a assoc None (HasAsked request) → request.host ≡ ByName name.now → a.state.since ≡ now → Turns N.Link.told N.Link.counts (SameDesk h marks) (context users pubs generation config cap h marks) now (N.told net.old) (N.told net.new) a next) }
+    ensures { IfOk result (λ next. (users : List User) (pubs : List Entries) (generation : ℕ) (config : Entries) (cap : ℕ) (h : List Line) (marks : List StopBy) (now : ℕ) (a : SomeAssoc N.Link) (request : Request) → HasHeard N.Link.told N.Link.counts (socks users pubs) generation config a assoc None (HasAsked request) → request.host ≡ ByName name.now → a.state.since ≡ now → Turns N.Link.told N.Link.counts (SameDesk h marks) (context users pubs generation config cap h marks) now (N.told net.old) (N.told net.new) a next) }
 {
     look_up(&mut assoc.state, net, name)?;
     assoc.write_on(alloc)

@@ -4,7 +4,7 @@ ghost use Rattle.net_ends.specs.Counts.{Later};
 ghost use Rattle.net_ends.specs.Faults.{Tried};
 ghost use Rattle.assoc_core.specs.Sending.{SendEnds, Sends, failed_sending, is_full};
 
-use conf_text::Text;
+use lists::Text;
 use net_ends::{Link, Writing};
 use std::alloc::{AllocError, Global};
 use std::mem;

@@ -1,10 +1,9 @@
 ghost use Rattle.std.specs.Prelude.{◌≡◌, ℕ, None, Some, Option, List, [], ◌∷◌, IfOk, drop, length};
-ghost use Rattle.conf_model.specs.declared.config.Config.{Config};
-ghost use Rattle.conf_model.specs.declared.user.User.{User};
-ghost use Rattle.conf_model.specs.Plain.{IsPlain};
+ghost use Rattle.conf_types.specs.declared.entries.Entries.{Entries};
+ghost use Rattle.socks_grammar.specs.declared.user.User.{User};
+ghost use Rattle.conf_types.specs.Plain.{IsPlain};
 ghost use Rattle.net_ends.specs.Nets.{NetTold};
 ghost use Rattle.socks_machine.specs.Calls.{name_of};
-ghost use Rattle.rule_list.specs.Numbers.{FitsNumbers};
 ghost use Rattle.rule_list.specs.Rules.{numbered};
 ghost use Rattle.socks_machine.specs.declared.lines.Line.{Line};
 ghost use Rattle.socks_machine.specs.declared.cause.StopBy.{StopBy};
@@ -26,10 +25,11 @@ use crate::replies::owed_to_client;
 use crate::seek::seek;
 use crate::send::{Sent, send_pending};
 use addr_pattern::Host;
-use conf_model::{Command, Config};
+use conf_types::Config;
 use handshake_core::Request;
 use net_ends::{Link, Net};
 use session_desk::DeskCall;
+use socks_grammar::Command;
 use socks_machine::{Cause, Record};
 use std::alloc::{AllocError, Global};
 use user_login::Users;
@@ -61,11 +61,10 @@ pub(crate) fn talk<N: Net, K: DeskCall>(
 ) -> Result<Next<N::Link>, AllocError>
 where
     N::Link: Drop,
-    requires { FitsNumbers config.now }
     ensures cap { IfOk result (λ next. K.cap desk.new ≡ K.cap desk.old) }
-    ensures turns { IfOk result (λ next. (pubs : List Config) (h : List Line) (marks : List StopBy) (now generation' : ℕ) (rule : Option ℕ) → K.stands desk.old h marks → Stands N.Link.told (socks users.now pubs) a → TellsServed users.now (N.Link.told a.client) → numbered pubs generation ≡ Some config.now → IsPlain config.now → a.state.since ≡ now → a.state.cause ≡ None → a.state.decisions ≡ Decision.Opened generation' rule None ∷ [] → Turns N.Link.told N.Link.counts (K.stands desk.new) (context users.now pubs generation config.now (K.cap desk.old) h marks) now (N.told net.old) (N.told net.new) a next) }
+    ensures turns { IfOk result (λ next. (pubs : List Entries) (h : List Line) (marks : List StopBy) (now generation' : ℕ) (rule : Option ℕ) → K.stands desk.old h marks → Stands N.Link.told (socks users.now pubs) a → TellsServed users.now (N.Link.told a.client) → numbered pubs generation ≡ Some config.now → IsPlain config.now → a.state.since ≡ now → a.state.cause ≡ None → a.state.decisions ≡ Decision.Opened generation' rule None ∷ [] → Turns N.Link.told N.Link.counts (K.stands desk.new) (context users.now pubs generation config.now (K.cap desk.old) h marks) now (N.told net.old) (N.told net.new) a next) }
 {
-    let methods = methods_by(a.state.chosen, config.methods.as_slice());
+    let methods = methods_by(a.state.chosen, config.entries().methods.as_slice());
     let Hearing { heard, method } = hear(alloc, methods, users, &mut a.state.c, &mut a.client)?;
     a.state.chosen = choose(generation, a.state.chosen, method);
     match heard {
@@ -98,7 +97,7 @@ impl<L: Link + Drop> Assoc<L> {
     /// The client has ended before its prelude was whole.
     fn hang_up<K: DeskCall>(mut self, desk: &mut K) -> Next<L>
         ensures cap { K.cap desk.new ≡ K.cap desk.old }
-        ensures turns { (users : List User) (pubs : List Config) (generation : ℕ) (config : Config) (h : List Line) (marks : List StopBy) (net : NetTold) (now : ℕ) (a : Assoc L) → K.stands desk.old h marks → HasHeard L.told L.counts (socks users pubs) generation config a self None Heard.End → a.state.since ≡ now → Turns L.told L.counts (K.stands desk.new) (context users pubs generation config (K.cap desk.old) h marks) now net net a result }
+        ensures turns { (users : List User) (pubs : List Entries) (generation : ℕ) (config : Entries) (h : List Line) (marks : List StopBy) (net : NetTold) (now : ℕ) (a : Assoc L) → K.stands desk.old h marks → HasHeard L.told L.counts (socks users pubs) generation config a self None Heard.End → a.state.since ≡ now → Turns L.told L.counts (K.stands desk.new) (context users pubs generation config (K.cap desk.old) h marks) now net net a result }
     {
         self.state.end_c = true;
         let at = self.state.c.len() as u64;
@@ -108,7 +107,7 @@ impl<L: Link + Drop> Assoc<L> {
     /// The client says nothing more yet: what it has said is answered.
     fn answer<K: DeskCall>(mut self, alloc: Global, desk: &mut K) -> Result<Next<L>, AllocError>
         ensures cap { IfOk result (λ next. K.cap desk.new ≡ K.cap desk.old) }
-        ensures turns { IfOk result (λ next. (users : List User) (pubs : List Config) (generation : ℕ) (config : Config) (h : List Line) (marks : List StopBy) (net : NetTold) (now : ℕ) (a : Assoc L) → K.stands desk.old h marks → HasHeard L.told L.counts (socks users pubs) generation config a self None Heard.NotYet → a.state.since ≡ now → Turns L.told L.counts (K.stands desk.new) (context users pubs generation config (K.cap desk.old) h marks) now net net a next) }
+        ensures turns { IfOk result (λ next. (users : List User) (pubs : List Entries) (generation : ℕ) (config : Entries) (h : List Line) (marks : List StopBy) (net : NetTold) (now : ℕ) (a : Assoc L) → K.stands desk.old h marks → HasHeard L.told L.counts (socks users pubs) generation config a self None Heard.NotYet → a.state.since ≡ now → Turns L.told L.counts (K.stands desk.new) (context users pubs generation config (K.cap desk.old) h marks) now net net a next) }
     {
         match send_to_client(alloc, &mut self.state, &mut self.client)? {
             Sent::All => Ok(Next::Wait(self)),
@@ -125,7 +124,7 @@ impl<L: Link + Drop> Assoc<L> {
         cause: Cause,
     ) -> Result<Next<L>, AllocError>
         ensures cap { IfOk result (λ next. K.cap desk.new ≡ K.cap desk.old) }
-        ensures turns { IfOk result (λ next. (users : List User) (pubs : List Config) (generation : ℕ) (config : Config) (h : List Line) (marks : List StopBy) (net : NetTold) (now : ℕ) (a : Assoc L) → K.stands desk.old h marks → HasHeard L.told L.counts (socks users pubs) generation config a self None (IsRefused cause) → a.state.since ≡ now → Turns L.told L.counts (K.stands desk.new) (context users pubs generation config (K.cap desk.old) h marks) now net net a next) }
+        ensures turns { IfOk result (λ next. (users : List User) (pubs : List Entries) (generation : ℕ) (config : Entries) (h : List Line) (marks : List StopBy) (net : NetTold) (now : ℕ) (a : Assoc L) → K.stands desk.old h marks → HasHeard L.told L.counts (socks users pubs) generation config a self None (IsRefused cause) → a.state.since ≡ now → Turns L.told L.counts (K.stands desk.new) (context users pubs generation config (K.cap desk.old) h marks) now net net a next) }
     {
         self.state.cause = Some(cause);
         match send_to_client(alloc, &mut self.state, &mut self.client)? {
@@ -144,9 +143,8 @@ impl<L: Link + Drop> Assoc<L> {
         desk: &mut K,
         request: &Request,
     ) -> Result<Next<L>, AllocError>
-        requires { FitsNumbers config.now }
         ensures cap { IfOk result (λ next. K.cap desk.new ≡ K.cap desk.old) }
-        ensures turns { IfOk result (λ next. (users : List User) (pubs : List Config) (h : List Line) (marks : List StopBy) (net : NetTold) (now : ℕ) (a : Assoc L) (sought : Option Sought) → K.stands desk.old h marks → HasHeard L.told L.counts (socks users pubs) generation config.now a self sought (HasAsked request.now) → name_of request.now.host ≡ name_sought sought → a.state.since ≡ now → Turns L.told L.counts (K.stands desk.new) (context users pubs generation config.now (K.cap desk.old) h marks) now net net a next) }
+        ensures turns { IfOk result (λ next. (users : List User) (pubs : List Entries) (h : List Line) (marks : List StopBy) (net : NetTold) (now : ℕ) (a : Assoc L) (sought : Option Sought) → K.stands desk.old h marks → HasHeard L.told L.counts (socks users pubs) generation config.now a self sought (HasAsked request.now) → name_of request.now.host ≡ name_sought sought → a.state.since ≡ now → Turns L.told L.counts (K.stands desk.new) (context users pubs generation config.now (K.cap desk.old) h marks) now net net a next) }
     {
         let Command::Connect = request.command else {
             // Another command isn't served: such a request isn't answered.

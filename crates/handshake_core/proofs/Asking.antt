@@ -4,8 +4,8 @@ use Rattle.std.specs.Prelude.{IfSome}
 use Rattle.addr_pattern.specs.declared.front.Front.{Front}
 use Rattle.addr_pattern.specs.declared.front.BadAt.{BadAt}
 use Rattle.addr_pattern.specs.declared.front.Span.{Span}
-use Rattle.conf_model.specs.Fronts.{IsFront}
-use Rattle.conf_model.specs.Grammar.{Read}
+use Rattle.socks_grammar.specs.Fronts.{IsFront}
+use Rattle.socks_grammar.specs.Grammar.{Read}
 use Rattle.socks4_codec.specs.declared.request.Request4.{Request4}
 use Rattle.socks4_codec.specs.Parts.{parts4}
 use Rattle.socks4_codec.specs.Placed.{IsRequest4, bytes_in}

@@ -5,13 +5,13 @@ use Rattle.std.proofs.lemmas.Bool.Decides.{nat_tests}
 use Rattle.std.proofs.lemmas.Slice.Eq.{bytes_eq-Decides}
 use Rattle.addr_pattern.specs.Equal.{bytes_option_eq}
 use Rattle.addr_pattern.specs.declared.front.BadKind.{BadKind}
-use Rattle.conf_model.specs.declared.protocol.Method.{Method}
-use Rattle.conf_model.specs.declared.protocol.Version.{Version}
-use Rattle.conf_model.specs.declared.user.User.{User}
-use Rattle.conf_model.specs.Grammar.{Read, Reader, Asked, Credentials, and_then, greeting, login, request4, request5}
-use Rattle.conf_model.specs.Handshake.{Split, split, split_request, split_login, split_greeted, offered, offered_by, login_end, version_of}
-use Rattle.conf_model.specs.Stable.{Extends}
-use Rattle.conf_model.specs.Users.{user_fits}
+use Rattle.socks_grammar.specs.declared.protocol.Method.{Method}
+use Rattle.socks_grammar.specs.declared.protocol.Version.{Version}
+use Rattle.socks_grammar.specs.declared.user.User.{User}
+use Rattle.socks_grammar.specs.Grammar.{Read, Reader, Asked, Credentials, and_then, greeting, login, request4, request5}
+use Rattle.socks_grammar.specs.Handshake.{Split, split, split_request, split_login, split_greeted, offered, offered_by, login_end, version_of}
+use Rattle.socks_grammar.specs.Stable.{Extends}
+use Rattle.socks_grammar.specs.Users.{user_fits}
 use Rattle.socks_machine.specs.Replies.{choose}
 use Rattle.socks_machine.specs.Settle.{is_nothing}
 use Rattle.handshake_core.specs.declared.fed.Fed.{Fed}

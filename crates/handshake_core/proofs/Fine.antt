@@ -4,8 +4,8 @@ use Rattle.std.specs.List.{list_all}
 use Rattle.std.proofs.lemmas.Bool.Decides.{nat_tests}
 use Rattle.addr_pattern.specs.declared.front.BadKind.{BadKind}
 use Rattle.addr_pattern.specs.declared.host.Host.{Host}
-use Rattle.addr_pattern.specs.Names.{name_of}
-use Rattle.conf_model.specs.Grammar.{Read, Reader, Asked, ◌>>=◌, and_then, done, byte_that, any_byte, bytes_that, any_bytes, number16, number32, number128, is_name_byte, ended_by_zero, name4, host4, request4, greeting, name5, host_by_type, host5, request5, login}
+use Rattle.addr_pattern.specs.Names.{is_name_byte, name_of}
+use Rattle.socks_grammar.specs.Grammar.{Read, Reader, Asked, ◌>>=◌, and_then, done, byte_that, any_byte, bytes_that, any_bytes, number16, number32, number128, ended_by_zero, name4, host4, request4, greeting, name5, host_by_type, host5, request5, login}
 use Rattle.socks4_codec.specs.Parts.{Parts4, parts4, name_part}
 use Rattle.socks5_codec.specs.Parts.{typed_host, host_spelled, destination, Destination, request_spelled}
 use Rattle.handshake_core.specs.Readers.{AllBytes, Fine, IsFine}

@@ -7,13 +7,13 @@ use Rattle.std.proofs.lemmas.List.{append-nil, length-drop, take_all}
 use Rattle.std.proofs.lemmas.Bool.Decides.{nat_tests}
 use Rattle.std.proofs.lemmas.Slice.Eq.{bytes_eq-Decides}
 use Rattle.addr_pattern.specs.declared.front.BadKind.{BadKind}
-use Rattle.conf_model.specs.declared.protocol.Method.{Method}
-use Rattle.conf_model.specs.declared.protocol.Version.{Version}
-use Rattle.conf_model.specs.declared.user.User.{User}
-use Rattle.conf_model.specs.Grammar.{Read, Asked, Credentials, method_byte, greeting, login, request4, request5}
-use Rattle.conf_model.specs.Handshake.{Split, split, split_request, split_login, split_answered, split_greeted, request_of, offered, offered_by, greeting_length, login_place, login_end, version_of}
-use Rattle.conf_model.specs.Users.{user_fits}
-use Rattle.conf_model.proofs.GrammarLaws.{login-stable}
+use Rattle.socks_grammar.specs.declared.protocol.Method.{Method}
+use Rattle.socks_grammar.specs.declared.protocol.Version.{Version}
+use Rattle.socks_grammar.specs.declared.user.User.{User}
+use Rattle.socks_grammar.specs.Grammar.{Read, Asked, Credentials, method_byte, greeting, login, request4, request5}
+use Rattle.socks_grammar.specs.Handshake.{Split, split, split_request, split_login, split_answered, split_greeted, request_of, offered, offered_by, greeting_length, login_place, login_end, version_of}
+use Rattle.socks_grammar.specs.Users.{user_fits}
+use Rattle.socks_grammar.proofs.GrammarLaws.{login-stable}
 use Rattle.socks_machine.specs.declared.cause.Cause.{Cause}
 use Rattle.socks_machine.specs.Replies.{choose, login_reply, failing_reply, refusal, bytes_of_answer, Bytes}
 use Rattle.socks_machine.specs.Settle.{bad_cause}

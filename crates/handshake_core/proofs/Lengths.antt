@@ -1,11 +1,11 @@
 -- Where whole preludes end.
 use Rattle.std.proofs.Common.{ℕ, ◌≡◌, ◌==◌, Bool, true, false, if◌then◌else◌, Option, Some, None, List, [], ◌∷◌}
-use Rattle.conf_model.specs.declared.protocol.Method.{Method}
-use Rattle.conf_model.specs.declared.protocol.Version.{Version}
-use Rattle.conf_model.specs.declared.user.User.{User}
-use Rattle.conf_model.specs.Grammar.{Read, Asked, Credentials, greeting, login, request4, request5}
-use Rattle.conf_model.specs.Handshake.{Request, Split, split_request, split_login, split_answered, split_greeted}
-use Rattle.conf_model.specs.Users.{user_fits}
+use Rattle.socks_grammar.specs.declared.protocol.Method.{Method}
+use Rattle.socks_grammar.specs.declared.protocol.Version.{Version}
+use Rattle.socks_grammar.specs.declared.user.User.{User}
+use Rattle.socks_grammar.specs.Grammar.{Read, Asked, Credentials, greeting, login, request4, request5}
+use Rattle.socks_grammar.specs.Handshake.{Request, Split, split_request, split_login, split_answered, split_greeted}
+use Rattle.socks_grammar.specs.Users.{user_fits}
 use Rattle.handshake_core.specs.Lengths.{asked_end, logged_end, answered_end, greeted_end, IsLengthOfPrelude}
 
 asked-ends : (version : Version) (method : Method) (user : Option (List ℕ)) (x : Read Asked) (q : Request) (n : ℕ) → split_request version method user x ≡ Split.Whole q n → asked_end x ≡ n

@@ -12,3 +12,6 @@ pub mod Whole
 pub mod Lengths
 pub mod Places
 pub mod Running
+pub mod Preludes
+pub mod PreludeStops
+mod Rows

@@ -1,7 +1,8 @@
 -- A reader's place grows by what it reads, and so no message ends behind its input.
 use Rattle.std.proofs.Common.{ℕ, zero, suc, ◌≡◌, ◌≤◌, ◌+◌, ◌==◌, Bool, true, false, cond, not, Option, Some, None, List, [], ◌∷◌, length, refl, sym, subst, ◌∙◌, arith}
 use Rattle.addr_pattern.specs.declared.front.BadKind.{BadKind}
-use Rattle.conf_model.specs.Grammar.{Read, Reader, Asked, Credentials, ◌>>=◌, and_then, done, byte_that, any_byte, bytes_that, any_bytes, number16, number32, number128, is_name_byte, ended_by_zero, means_name, name4, host4, request4, greeting, name5, host_by_type, host5, request5, login}
+use Rattle.socks_grammar.specs.Grammar.{Read, Reader, Asked, Credentials, ◌>>=◌, and_then, done, byte_that, any_byte, bytes_that, any_bytes, number16, number32, number128, ended_by_zero, means_name, name4, host4, request4, greeting, name5, host_by_type, host5, request5, login}
+use Rattle.addr_pattern.specs.Names.{is_name_byte}
 use Rattle.handshake_core.specs.Lengths.{asked_end, logged_end, answered_end, greeted_end, prelude_end, EndsWithin}
 use Rattle.handshake_core.specs.Readers.{Counted, IsCounted}
 use Rattle.handshake_core.proofs.Tight.{one_by_one, as-one-by-one}

@@ -11,9 +11,10 @@ use Rattle.addr_pattern.specs.declared.addr.Addr.{Addr}
 use Rattle.addr_pattern.specs.declared.host.Host.{Host}
 use Rattle.addr_pattern.specs.AddressText.{host_of}
 use Rattle.addr_pattern.specs.declared.front.BadKind.{BadKind}
-use Rattle.conf_model.specs.declared.protocol.Version.{Version}
-use Rattle.conf_model.specs.Grammar.{Read, Reader, Asked, ◌>>=◌, and_then, done, byte_that, any_byte, bytes_that, number16, number32, ended_by_zero, is_name_byte, name4, host4, host5, command4, command5, request4, request5, means_name}
-use Rattle.conf_model.specs.Handshake.{version_of}
+use Rattle.socks_grammar.specs.declared.protocol.Version.{Version}
+use Rattle.socks_grammar.specs.Grammar.{Read, Reader, Asked, ◌>>=◌, and_then, done, byte_that, any_byte, bytes_that, number16, number32, ended_by_zero, name4, host4, host5, command4, command5, request4, request5, means_name}
+use Rattle.addr_pattern.specs.Names.{is_name_byte}
+use Rattle.socks_grammar.specs.Handshake.{version_of}
 use Rattle.handshake_core.specs.declared.run.Kind.{Kind}
 use Rattle.handshake_core.specs.declared.run.Run.{Run}
 use Rattle.handshake_core.specs.declared.state.Stage.{Stage}

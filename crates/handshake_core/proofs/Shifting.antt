@@ -1,7 +1,7 @@
 -- A login and a request read the same from every place on.
 use Rattle.std.proofs.Common.{ℕ, zero, suc, ◌≡◌, ◌+◌, Bool, true, false, cond, List, [], ◌∷◌, refl, sym, ap, ◌∙◌, arith}
 use Rattle.addr_pattern.specs.declared.front.BadKind.{BadKind}
-use Rattle.conf_model.specs.Grammar.{Read, Reader, ◌>>=◌, and_then, done, byte_that, any_byte, bytes_that, any_bytes, number16, number32, number128, name5, host_by_type, host5, request5, login}
+use Rattle.socks_grammar.specs.Grammar.{Read, Reader, ◌>>=◌, and_then, done, byte_that, any_byte, bytes_that, any_bytes, number16, number32, number128, name5, host_by_type, host5, request5, login}
 use Rattle.handshake_core.specs.Readers.{shifted, IsShifting}
 use Rattle.handshake_core.proofs.Tight.{one_by_one, as-one-by-one}
 

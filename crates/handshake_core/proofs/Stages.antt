@@ -4,13 +4,13 @@ use Rattle.std.specs.Prelude.{◌⊎◌}
 use Rattle.std.specs.List.{list_any}
 use Rattle.std.proofs.lemmas.Bool.Decides.{nat_tests}
 use Rattle.addr_pattern.specs.declared.front.BadKind.{BadKind}
-use Rattle.conf_model.specs.declared.protocol.Method.{Method}
-use Rattle.conf_model.specs.declared.protocol.Version.{Version}
-use Rattle.conf_model.specs.declared.user.User.{User}
-use Rattle.conf_model.specs.Grammar.{Read, and_then, greeting, login, request4}
-use Rattle.conf_model.specs.Handshake.{Split, split, split_request, split_answered, split_greeted, offered, offered_by, greeting_length, place_behind, login_place, login_place_of, login_end, version_of}
-use Rattle.conf_model.specs.Stable.{Extends}
-use Rattle.conf_model.proofs.GrammarLaws.{greeting-stable}
+use Rattle.socks_grammar.specs.declared.protocol.Method.{Method}
+use Rattle.socks_grammar.specs.declared.protocol.Version.{Version}
+use Rattle.socks_grammar.specs.declared.user.User.{User}
+use Rattle.socks_grammar.specs.Grammar.{Read, and_then, greeting, login, request4}
+use Rattle.socks_grammar.specs.Handshake.{Split, split, split_request, split_answered, split_greeted, offered, offered_by, greeting_length, place_behind, login_place, login_place_of, login_end, version_of}
+use Rattle.socks_grammar.specs.Stable.{Extends}
+use Rattle.socks_grammar.proofs.GrammarLaws.{greeting-stable}
 use Rattle.socks_machine.specs.declared.cause.Cause.{Cause}
 use Rattle.socks_machine.specs.declared.record.Chosen.{Chosen}
 use Rattle.socks_machine.specs.Replies.{choose, method_code, failing_reply, refusal, bytes_of_answer, Code}

@@ -2,12 +2,12 @@
 use Rattle.std.proofs.Common.{ℕ, Bool, true, false, ◌≡◌, ◌==◌, ◌&&◌, if◌then◌else◌, Option, Some, None, option_map, List, [], ◌∷◌, ◌++◌, length, take, drop, refl, sym, subst, ap, ◌∙◌, append_assoc, arith}
 use Rattle.std.proofs.lemmas.List.{append-nil, take-append-drop}
 use Rattle.addr_pattern.specs.declared.front.BadKind.{BadKind}
-use Rattle.conf_model.specs.declared.protocol.Method.{Method}
-use Rattle.conf_model.specs.declared.user.User.{User}
-use Rattle.conf_model.specs.Grammar.{Read, greeting}
-use Rattle.conf_model.specs.Handshake.{Split, Request, split, split_greeted, offered_by, login_place}
-use Rattle.conf_model.specs.Stable.{Extends, SplitExtends}
-use Rattle.conf_model.proofs.GrammarLaws.{greeting-stable, split-extends}
+use Rattle.socks_grammar.specs.declared.protocol.Method.{Method}
+use Rattle.socks_grammar.specs.declared.user.User.{User}
+use Rattle.socks_grammar.specs.Grammar.{Read, greeting}
+use Rattle.socks_grammar.specs.Handshake.{Split, Request, split, split_greeted, offered_by, login_place}
+use Rattle.socks_grammar.specs.Stable.{Extends, SplitExtends}
+use Rattle.socks_grammar.proofs.GrammarLaws.{greeting-stable, split-extends}
 use Rattle.socks_machine.specs.declared.cause.Cause.{Cause}
 use Rattle.socks_machine.specs.Replies.{choose, login_reply}
 use Rattle.handshake_core.specs.declared.fed.Fed.{Fed}

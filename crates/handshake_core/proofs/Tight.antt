@@ -1,8 +1,8 @@
 -- A greeting and a login end with the first byte that makes them whole.
 use Rattle.std.proofs.Common.{ℕ, zero, suc, ◌≡◌, ◌+◌, Bool, true, false, cond, List, [], ◌∷◌, ◌++◌, refl}
 use Rattle.addr_pattern.specs.declared.front.BadKind.{BadKind}
-use Rattle.conf_model.specs.Grammar.{Read, Reader, ◌>>=◌, and_then, done, byte_that, any_byte, bytes_that, any_bytes, greeting, login}
-use Rattle.conf_model.specs.Stable.{Extends}
+use Rattle.socks_grammar.specs.Grammar.{Read, Reader, ◌>>=◌, and_then, done, byte_that, any_byte, bytes_that, any_bytes, greeting, login}
+use Rattle.socks_grammar.specs.Stable.{Extends}
 use Rattle.handshake_core.specs.Readers.{Ends, Tight, IsTight}
 
 then-nil : {A B : Type 0} (next : A → Reader B) (x : Read A) → ((a : A) → IsTight (next a)) → Ends x → Ends (and_then x next)

@@ -3,13 +3,13 @@ use Rattle.std.proofs.Common.{ℕ, zero, suc, ◌≡◌, ◌≤◌, ◌+◌, ◌
 use Rattle.std.specs.Prelude.{slice_range}
 use Rattle.std.proofs.lemmas.List.{drop-drop, length-drop, take_all}
 use Rattle.addr_pattern.specs.declared.front.Front.{Front}
-use Rattle.conf_model.specs.declared.protocol.Method.{Method}
-use Rattle.conf_model.specs.declared.protocol.Version.{Version}
-use Rattle.conf_model.specs.declared.user.User.{User}
-use Rattle.conf_model.specs.Fronts.{IsFront}
-use Rattle.conf_model.specs.Grammar.{Read, Asked, Credentials, greeting, login, request4, request5}
-use Rattle.conf_model.specs.Handshake.{Split, split_request, split_login, split_greeted, request_of, login_end}
-use Rattle.conf_model.specs.Users.{user_fits}
+use Rattle.socks_grammar.specs.declared.protocol.Method.{Method}
+use Rattle.socks_grammar.specs.declared.protocol.Version.{Version}
+use Rattle.socks_grammar.specs.declared.user.User.{User}
+use Rattle.socks_grammar.specs.Fronts.{IsFront}
+use Rattle.socks_grammar.specs.Grammar.{Read, Asked, Credentials, greeting, login, request4, request5}
+use Rattle.socks_grammar.specs.Handshake.{Split, split_request, split_login, split_greeted, request_of, login_end}
+use Rattle.socks_grammar.specs.Users.{user_fits}
 use Rattle.socks5_codec.specs.declared.message.Greeting.{Greeting}
 use Rattle.socks5_codec.specs.Reads.{OnGreeting}
 use Rattle.user_login.specs.declared.login.LoginAt.{LoginAt}

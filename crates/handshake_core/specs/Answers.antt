@@ -1,8 +1,8 @@
 -- What a call answers, by cases.
 use Rattle.std.specs.Prelude.{ℕ, ◌≡◌, ◌<◌, ◌≤◌, true, List, ◌++◌, length, take}
-use Rattle.conf_model.specs.declared.protocol.Method.{Method}
-use Rattle.conf_model.specs.declared.user.User.{User}
-use Rattle.conf_model.specs.Handshake.{Request}
+use Rattle.socks_grammar.specs.declared.protocol.Method.{Method}
+use Rattle.socks_grammar.specs.declared.user.User.{User}
+use Rattle.socks_grammar.specs.Handshake.{Request}
 use Rattle.handshake_core.specs.declared.fed.Fed.{Fed}
 use Rattle.handshake_core.specs.declared.request.Request.{Request as RequestIs}
 use Rattle.handshake_core.specs.Due.{Due, Client, IsOpen, due, method_after}

@@ -2,7 +2,7 @@
 use Rattle.std.specs.Prelude.{ℕ, ◌≡◌, ◌≤◌, ◌+◌, Option, Some, None, Ok, List, length, slice_range}
 use Rattle.addr_pattern.specs.declared.front.Span.{Span}
 use Rattle.addr_pattern.specs.Names.{name_of}
-use Rattle.conf_model.specs.Grammar.{Asked}
+use Rattle.socks_grammar.specs.Grammar.{Asked}
 use Rattle.socks5_codec.specs.declared.message.HostAt.{HostAt}
 use Rattle.handshake_core.specs.declared.asked.Asked.{Asked as AskedIs}
 

@@ -1,8 +1,8 @@
 -- What is due to a client, by all that it has sent so far.
 use Rattle.std.specs.Prelude.{ℕ, ◌≡◌, Bool, true, false, ◌&&◌, ◌==◌, if◌then◌else◌, Option, Some, None, option_map, List, length}
-use Rattle.conf_model.specs.declared.protocol.Method.{Method}
-use Rattle.conf_model.specs.declared.user.User.{User}
-use Rattle.conf_model.specs.Handshake.{Request, Split, split, offered, login_place, version_of}
+use Rattle.socks_grammar.specs.declared.protocol.Method.{Method}
+use Rattle.socks_grammar.specs.declared.user.User.{User}
+use Rattle.socks_grammar.specs.Handshake.{Request, Split, split, offered, login_place, version_of}
 use Rattle.socks_machine.specs.declared.cause.Cause.{Cause}
 use Rattle.socks_machine.specs.declared.record.Chosen.{Chosen}
 use Rattle.socks_machine.specs.Replies.{choose, method_reply, login_reply, refusal}

@@ -1,8 +1,8 @@
 -- How long the prelude is at the front of a whole input, whoever its user is.
 use Rattle.std.specs.Prelude.{ℕ, ◌≡◌, ◌≤◌, ◌==◌, if◌then◌else◌, Option, Some, List, [], ◌∷◌, length}
-use Rattle.conf_model.specs.declared.user.User.{User}
-use Rattle.conf_model.specs.Grammar.{Read, Asked, Credentials, greeting, login, request4, request5}
-use Rattle.conf_model.specs.Handshake.{Request, Split, split}
+use Rattle.socks_grammar.specs.declared.user.User.{User}
+use Rattle.socks_grammar.specs.Grammar.{Read, Asked, Credentials, greeting, login, request4, request5}
+use Rattle.socks_grammar.specs.Handshake.{Request, Split, split}
 
 -- where a message ends that is whole, and 0 where it isn't
 abbrev pub asked_end : Read Asked → ℕ

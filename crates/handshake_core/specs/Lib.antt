@@ -8,3 +8,4 @@ pub mod Taking
 pub mod Whole
 pub mod Lengths
 pub mod Runs
+pub mod PreludeLaws

@@ -1,7 +1,7 @@
 -- What holds of the readers of the grammar: how far they read, where, and what they give.
 use Rattle.std.specs.Prelude.{ℕ, ◌≡◌, ◌<◌, ◌≤◌, ◌+◌, List, [], ◌∷◌, ◌++◌, length}
-use Rattle.conf_model.specs.Grammar.{Read, Reader}
-use Rattle.conf_model.specs.Stable.{Extends}
+use Rattle.socks_grammar.specs.Grammar.{Read, Reader}
+use Rattle.socks_grammar.specs.Stable.{Extends}
 
 -- nothing is left behind what was found
 abbrev pub Ends : {A : Type 0} → Read A → Type 0

@@ -1,9 +1,10 @@
 -- Bytes that leave a message too short.
 use Rattle.std.specs.Prelude.{ℕ, ◌≡◌, ◌<◌, ◌≤◌, ◌==◌, Bool, true, false, not, Some, List, ◌++◌, length}
 use Rattle.std.specs.List.{list_all}
-use Rattle.conf_model.specs.declared.protocol.Version.{Version}
-use Rattle.conf_model.specs.Grammar.{Read, is_name_byte, request4, request5}
-use Rattle.conf_model.specs.Handshake.{version_of}
+use Rattle.socks_grammar.specs.declared.protocol.Version.{Version}
+use Rattle.socks_grammar.specs.Grammar.{Read, request4, request5}
+use Rattle.addr_pattern.specs.Names.{is_name_byte}
+use Rattle.socks_grammar.specs.Handshake.{version_of}
 use Rattle.handshake_core.specs.declared.run.Kind.{Kind}
 use Rattle.handshake_core.specs.declared.run.Run.{Run}
 use Rattle.handshake_core.specs.declared.state.Stage.{Stage}

@@ -1,13 +1,13 @@
 -- What a handshake keeps of the messages so far.
 use Rattle.std.specs.Prelude.{ℕ, ◌≡◌, ◌<◌, ◌≤◌, ◌⊎◌, Bool, true, false, ◌&&◌, ◌==◌, if◌then◌else◌, Option, Some, None, is_none, List, [], ◌∷◌, ◌++◌, length, take}
 use Rattle.addr_pattern.specs.Equal.{bytes_option_eq}
-use Rattle.conf_model.specs.declared.protocol.Method.{Method}
-use Rattle.conf_model.specs.declared.protocol.Version.{Version}
-use Rattle.conf_model.specs.declared.user.User.{User}
+use Rattle.socks_grammar.specs.declared.protocol.Method.{Method}
+use Rattle.socks_grammar.specs.declared.protocol.Version.{Version}
+use Rattle.socks_grammar.specs.declared.user.User.{User}
 use Rattle.handshake_core.specs.declared.asked.Asked.{Asked}
-use Rattle.conf_model.specs.Grammar.{Read, Credentials, greeting, login}
-use Rattle.conf_model.specs.Handshake.{offered, login_end}
-use Rattle.conf_model.specs.Users.{user_fits}
+use Rattle.socks_grammar.specs.Grammar.{Read, Credentials, greeting, login}
+use Rattle.socks_grammar.specs.Handshake.{offered, login_end}
+use Rattle.socks_grammar.specs.Users.{user_fits}
 use Rattle.socks_machine.specs.declared.cause.Cause.{Cause}
 use Rattle.socks_machine.specs.Settle.{is_nothing}
 use Rattle.handshake_core.specs.declared.fed.Fed.{Fed}

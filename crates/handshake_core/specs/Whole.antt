@@ -1,6 +1,6 @@
 -- The request in a client's whole input.
 use Rattle.std.specs.Prelude.{◌≡◌, Option, Some, None}
-use Rattle.conf_model.specs.Handshake.{Split}
+use Rattle.socks_grammar.specs.Handshake.{Split}
 use Rattle.handshake_core.specs.declared.request.Request.{Request}
 use Rattle.handshake_core.specs.Answers.{request_in}
 

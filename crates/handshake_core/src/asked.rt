@@ -1,8 +1,8 @@
 //! Requests with their hosts.
 ghost use Rattle.std.specs.Prelude.{◌≡◌, ◌+◌, option_map, slice_range};
 ghost use Rattle.addr_pattern.specs.AddressText.{host_of};
-ghost use Rattle.conf_model.specs.Fronts.{IsFront};
-ghost use Rattle.conf_model.specs.Grammar.{request4, request5};
+ghost use Rattle.socks_grammar.specs.Fronts.{IsFront};
+ghost use Rattle.socks_grammar.specs.Grammar.{request4, request5};
 ghost use Rattle.socks4_codec.specs.Parts.{host_named};
 ghost use Rattle.socks4_codec.specs.Placed.{bytes_in};
 ghost use Rattle.socks5_codec.specs.Parts.{meant};
@@ -10,7 +10,7 @@ ghost use Rattle.socks5_codec.specs.Placed.{host_in};
 ghost use Rattle.handshake_core.specs.Asking.{asked_in, IsNameAt, IsNameAt4, IsHostAt};
 
 use addr_pattern::{Addr, Front, Host, Span};
-use conf_model::Command;
+use socks_grammar::Command;
 use socks4_codec::read_request4;
 use socks5_codec::{HostAt, read_request5};
 

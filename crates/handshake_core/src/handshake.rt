@@ -1,5 +1,5 @@
 ghost use Rattle.std.specs.Prelude.{◌≡◌, ◌≤◌, [], None, false, length, List as Items};
-ghost use Rattle.conf_model.specs.declared.user.User.{User};
+ghost use Rattle.socks_grammar.specs.declared.user.User.{User};
 ghost use Rattle.handshake_core.specs.Answers.{Feeds};
 ghost use Rattle.handshake_core.specs.Due.{IsOpen};
 ghost use Rattle.handshake_core.specs.Taking.{Takes};
@@ -11,7 +11,7 @@ use crate::state::{Stage, State};
 use crate::take::take;
 use crate::taken::Taken;
 use addr_pattern::Short;
-use conf_model::Method;
+use socks_grammar::Method;
 use std::marker::Model;
 use user_login::Users;
 

@@ -1,10 +1,10 @@
 //! One byte of a prelude.
 ghost use Rattle.std.specs.Prelude.{◌≡◌, ◌<◌, ◌≤◌, ◌+◌, ◌∷◌, [], Some, None, MatchOption, true, false, List as Items, length};
-ghost use Rattle.conf_model.specs.declared.protocol.Version.{Version as SomeVersion};
-ghost use Rattle.conf_model.specs.declared.user.User.{User};
-ghost use Rattle.conf_model.specs.declared.protocol.Method.{Method as SomeMethod};
-ghost use Rattle.conf_model.specs.Handshake.{version_of};
-ghost use Rattle.conf_model.specs.Users.{user_fits};
+ghost use Rattle.socks_grammar.specs.declared.protocol.Version.{Version as SomeVersion};
+ghost use Rattle.socks_grammar.specs.declared.user.User.{User};
+ghost use Rattle.socks_grammar.specs.declared.protocol.Method.{Method as SomeMethod};
+ghost use Rattle.socks_grammar.specs.Handshake.{version_of};
+ghost use Rattle.socks_grammar.specs.Users.{user_fits};
 ghost use Rattle.socks_machine.specs.Replies.{choose as choose_of};
 ghost use Rattle.handshake_core.specs.Due.{IsOpen};
 ghost use Rattle.handshake_core.specs.Readers.{AllBytes};
@@ -12,15 +12,15 @@ ghost use Rattle.handshake_core.specs.Standing.{AtFirst, AtLogin, AtRequest, Ask
 
 use crate::asked::{Asked, read_asked4, read_asked5};
 use crate::fed::Fed;
-use crate::refuse::{bad_cause, failing, refuse, short};
+use crate::refuse::{bad_cause, failing, refuse};
 use crate::request::Request;
 use crate::state::{Stage, State};
 use addr_pattern::{Front, Name, Short};
-use conf_model::{Method, Version};
+use socks_grammar::{Method, Version};
 use socks_machine::Cause;
-use socks5_codec::read_greeting;
+use socks5_codec::{read_greeting, write_method};
 use std::mem;
-use user_login::{LoginAt, Users, read_login};
+use user_login::{LoginAt, Users, read_login, write_status};
 
 /// After a request no more is heard. The length is that of the whole prelude.
 fn ask(state: &mut State, version: Version, method: Method, asked: Asked, len: usize) -> Fed
@@ -83,7 +83,7 @@ fn greet(state: &mut State, method: u8) -> Fed
 {
     state.method = Some(method);
     if method == 255 {
-        return refuse(state, Cause::NoMethod, short(&[5, 255]));
+        return refuse(state, Cause::NoMethod, write_method(255));
     }
     state.greeting = mem::replace(&mut state.message, Short::empty());
     state.stage = if method == 2 {
@@ -91,7 +91,7 @@ fn greet(state: &mut State, method: u8) -> Fed
     } else {
         Stage::Request
     };
-    Fed::Say(short(&[5, method]))
+    Fed::Say(write_method(method))
 }
 
 /// A greeting is answered with its last byte, also where it offers no method (RFC 1928, section 3).
@@ -150,19 +150,19 @@ fn hear_login(state: &mut State, users: &Users) -> Fed
         Front::More => Fed::Need,
         Front::Bad(bad) => {
             let byte = bad.byte;
-            refuse(state, Cause::BadVersion { at, byte }, short(&[1, 1]))
+            refuse(state, Cause::BadVersion { at, byte }, write_status(1))
         }
         Front::Whole { value, .. } => {
             let LoginAt { name, password } = value;
             let name = &bytes[name.at..name.at + name.len];
             let password = &bytes[password.at..password.at + password.len];
             match user_named(users, name, password) {
-                None => refuse(state, Cause::LoginFailed, short(&[1, 1])),
+                None => refuse(state, Cause::LoginFailed, write_status(1)),
                 Some(user) => {
                     state.user = Some(user);
                     state.login = mem::replace(&mut state.message, Short::empty());
                     state.stage = Stage::Request;
-                    Fed::Say(short(&[1, 0]))
+                    Fed::Say(write_status(0))
                 }
             }
         }

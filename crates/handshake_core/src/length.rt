@@ -1,7 +1,7 @@
 //! The length of the prelude at the front of a whole input.
 ghost use Rattle.std.specs.Prelude.{◌≡◌, ◌≤◌, Some, drop, is_some, length};
-ghost use Rattle.conf_model.specs.Grammar.{greeting, login, request4, request5};
-ghost use Rattle.conf_model.specs.Handshake.{greeting_length as length_of_greeting, login_end, login_place};
+ghost use Rattle.socks_grammar.specs.Grammar.{greeting, login, request4, request5};
+ghost use Rattle.socks_grammar.specs.Handshake.{greeting_length as length_of_greeting, login_end, login_place};
 ghost use Rattle.handshake_core.specs.Lengths.{asked_end, logged_end, greeted_end, prelude_end, IsLengthOfPrelude, EndsWithin};
 
 use crate::asked::{read_asked4, read_asked5};

@@ -1,15 +1,17 @@
 //! Refusals.
 ghost use Rattle.std.specs.Prelude.{◌≡◌, ◌+◌, ◌<◌, ◌^◌};
-ghost use Rattle.socks_machine.specs.Replies.{failing_reply};
+ghost use Rattle.socks_machine.specs.Replies.{failing_reply as failing_reply_of};
 ghost use Rattle.socks_machine.specs.Settle.{bad_cause as bad_cause_of};
 ghost use Rattle.handshake_core.specs.Refusing.{code_of};
 ghost use Rattle.handshake_core.specs.Standing.{Refuses};
 
 use crate::fed::Fed;
 use crate::state::{Stage, State};
-use addr_pattern::{BadAt, BadKind, Short};
-use conf_model::Version;
+use addr_pattern::{Addr, BadAt, BadKind, Endpoint, Short};
+use socks_grammar::Version;
 use socks_machine::Cause;
+use socks4_codec::{Reply4, write_reply4};
+use socks5_codec::write_reply5;
 
 /// The code of SOCKS 5 for a byte that is bad in a request (RFC 1928, section 6).
 fn code(kind: BadKind) -> u8
@@ -22,16 +24,32 @@ fn code(kind: BadKind) -> u8
     }
 }
 
+/// The reply that refuses a request: the code 91 in SOCKS 4, and this one in SOCKS 5, with the endpoint 0.0.0.0:0 (RFC 1928,
+/// section 6, and the SOCKS 4 memo).
+pub fn failing_reply(version: Version, code: u8) -> Short
+    ensures { result ≡ failing_reply_of version code }
+{
+    match version {
+        Version::V4 => write_reply4(&Reply4 {
+            code: 91,
+            port: 0,
+            addr: 0,
+        }),
+        Version::V5 => {
+            let nowhere = Endpoint {
+                addr: Addr::V4(0),
+                port: 0,
+            };
+            write_reply5(code, &nowhere)
+        }
+    }
+}
+
 /// The answer to a request with a bad byte (RFC 1928, section 6, and the SOCKS 4 memo).
 pub fn failing(version: Version, kind: BadKind) -> Short
-    ensures { result ≡ failing_reply version (code_of kind) }
+    ensures { result ≡ failing_reply_of version (code_of kind) }
 {
-    let mut reply = Short::empty();
-    match version {
-        Version::V4 => reply.add(&[0, 91, 0, 0, 0, 0, 0, 0]),
-        Version::V5 => reply.add(&[5, code(kind), 0, 1, 0, 0, 0, 0, 0, 0]),
-    }
-    reply
+    failing_reply(version, code(kind))
 }
 
 /// The cause for a bad byte of a message that has so many bytes before it.
@@ -47,15 +65,6 @@ pub fn bad_cause(before: usize, bad: &BadAt) -> Cause
         BadKind::Atyp => Cause::AtypUnsupported { at, byte },
         BadKind::Field => Cause::BadRequest { at, byte },
     }
-}
-
-/// An answer of two bytes (RFC 1928, section 3, and RFC 1929, section 2).
-pub fn short(bytes: &[u8; 2]) -> Short
-    ensures { result ≡ bytes.now }
-{
-    let mut text = Short::empty();
-    text.add(bytes);
-    text
 }
 
 /// After a refusal no more is heard.

@@ -1,5 +1,5 @@
 use addr_pattern::{Host, Name};
-use conf_model::{Command, Method, Version};
+use socks_grammar::{Command, Method, Version};
 
 /// What a client asks for, and how it logged in.
 #[derive(Drop)]

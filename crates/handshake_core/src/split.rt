@@ -1,9 +1,9 @@
 //! The request in a client's whole input.
 ghost use Rattle.std.specs.Prelude.{◌≡◌, ◌≤◌, Some, None, drop, length};
-ghost use Rattle.conf_model.specs.declared.protocol.Method.TheVariants.{NoAuth};
-ghost use Rattle.conf_model.specs.declared.protocol.Version.TheVariants.{V4, V5};
-ghost use Rattle.conf_model.specs.Grammar.{greeting, login, request4, request5};
-ghost use Rattle.conf_model.specs.Handshake.{split, split_greeted, split_login, split_request};
+ghost use Rattle.socks_grammar.specs.declared.protocol.Method.TheVariants.{NoAuth};
+ghost use Rattle.socks_grammar.specs.declared.protocol.Version.TheVariants.{V4, V5};
+ghost use Rattle.socks_grammar.specs.Grammar.{greeting, login, request4, request5};
+ghost use Rattle.socks_grammar.specs.Handshake.{split, split_greeted, split_login, split_request};
 ghost use Rattle.socks_machine.specs.Inputs.{is_served_input as is_served_input_of, is_served_request as is_served_request_of, is_served_split};
 ghost use Rattle.handshake_core.specs.Answers.{request_in};
 ghost use Rattle.handshake_core.specs.Whole.{OnSplit};
@@ -11,7 +11,7 @@ ghost use Rattle.handshake_core.specs.Whole.{OnSplit};
 use crate::asked::{Asked, read_asked4, read_asked5};
 use crate::request::Request;
 use addr_pattern::{Front, Name};
-use conf_model::{Command, Method, Version};
+use socks_grammar::{Command, Method, Version};
 use socks5_codec::read_greeting;
 use user_login::{LoginAt, Users, read_login};
 

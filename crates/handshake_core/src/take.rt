@@ -8,7 +8,7 @@ use crate::fed::Fed;
 use crate::hear::{are_bytes, hear};
 use crate::run::Run;
 use crate::state::State;
-use conf_model::Method;
+use socks_grammar::Method;
 use user_login::Users;
 
 /// Takes one more byte. The message is read from its front only where the byte is none of the run.

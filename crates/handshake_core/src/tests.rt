@@ -3,8 +3,8 @@ ghost use Rattle.handshake_core.specs.Due.{IsOpen};
 
 use super::*;
 use addr_pattern::Host;
-use conf_model::{Method, Version};
-use conf_text::Text;
+use lists::Text;
+use socks_grammar::{Method, Version};
 use socks_machine::Cause;
 use std::alloc::Global;
 use std::test::*;
@@ -275,66 +275,6 @@ const REFUSALS_OF_VERSION_5: [(&[u8], &str); 20] = [
     ),
 ];
 
-/// The same of SOCKS 5: each kind of bad byte at each place for one, with a byte behind it.
-#[test]
-fn refusals_of_version_5(rt: HostRuntime) -> Result<(), Fail> {
-    let alloc = rt.alloc();
-    let users = users_of(alloc, ABC)?;
-    for (bytes, shown) in REFUSALS_OF_VERSION_5 {
-        let seen = in_pieces(alloc, METHODS, &users, bytes)?;
-        assert_eq!(rt; seen.as_str(), shown, "at {bytes:?}");
-    }
-    Ok(())
-}
-
-#[test]
-fn refusals_of_version_4(rt: HostRuntime) -> Result<(), Fail> {
-    let alloc = rt.alloc();
-    let users = users_of(alloc, ABC)?;
-    let rows: [(&[u8], &str); 6] = [
-        (
-            b"\x04\x00!",
-            " CommandUnsupported { at: 1, byte: 0 } 0 91 0 0 0 0 0 0",
-        ),
-        (
-            b"\x04\x03!",
-            " CommandUnsupported { at: 1, byte: 3 } 0 91 0 0 0 0 0 0",
-        ),
-        (
-            b"\x04\x01\x00\x50\x00\x00\x00\x01\x00\x00!",
-            " BadRequest { at: 9, byte: 0 } 0 91 0 0 0 0 0 0",
-        ),
-        (
-            b"\x04\x01\x00\x50\x00\x00\x00\x01\x00\x7f!",
-            " BadRequest { at: 9, byte: 127 } 0 91 0 0 0 0 0 0",
-        ),
-        (
-            b"\x04\x01\x00\x50\x00\x00\x00\xff\x00a !",
-            " BadRequest { at: 10, byte: 32 } 0 91 0 0 0 0 0 0",
-        ),
-        (
-            b"\x04\x01\x00\x50\x00\x00\x00\x01me\x00~\x80!",
-            " BadRequest { at: 12, byte: 128 } 0 91 0 0 0 0 0 0",
-        ),
-    ];
-    for (bytes, shown) in rows {
-        let seen = in_pieces(alloc, METHODS, &users, bytes)?;
-        assert_eq!(rt; seen.as_str(), shown, "at {bytes:?}");
-    }
-    Ok(())
-}
-
-/// Bytes that each stand so many times.
-fn repeated(alloc: Global, pieces: &[(&[u8], u32)]) -> Result<Text, Fail> {
-    let mut text = Text::make(alloc);
-    for (bytes, times) in pieces {
-        for _ in 0..*times {
-            text.add(bytes)?;
-        }
-    }
-    Ok(text)
-}
-
 const LONG_PRELUDES: [(&[(&[u8], u32)], &[(&[u8], u32)]); 6] = [
     (
         &[
@@ -403,24 +343,6 @@ const LONG_PRELUDES: [(&[(&[u8], u32)], &[(&[u8], u32)]); 6] = [
         ],
     ),
 ];
-
-/// Users and names of 255 bytes and of one more, and the longest prelude: 255 methods, a login of 255 and 255 bytes and a
-/// name of 255.
-#[test]
-fn long_preludes(rt: HostRuntime) -> Result<(), Fail> {
-    let alloc = rt.alloc();
-    let file = repeated(alloc, &[(b"u", 255), (LONG_DIGEST, 1)])?;
-    let users = users_of(alloc, file.as_slice())?;
-    for (pieces, shown) in LONG_PRELUDES {
-        let bytes = repeated(alloc, pieces)?;
-        let shown = repeated(alloc, shown)?;
-        let slow = byte_by_byte(alloc, METHODS, &users, bytes.as_slice())?;
-        assert_eq!(rt; slow.as_str().as_bytes(), shown.as_slice());
-        let whole = cut_at(alloc, METHODS, &users, bytes.as_slice(), 0)?;
-        assert_eq!(rt; whole.as_str().as_bytes(), shown.as_slice());
-    }
-    Ok(())
-}
 
 /// Behind each prelude stands a byte of payload.
 #[test]

@@ -4,8 +4,8 @@ use Rattle.std.proofs.lemmas.List.Elements.{All-cons}
 use Rattle.std.specs.Prelude.{IfSome, All, Contains, IsTrue}
 use mathlib.Core.List.{IsPrefix}
 use Rattle.addr_pattern.specs.declared.endpoint.Endpoint.{Endpoint}
-use Rattle.conf_model.specs.declared.config.Config.{Config}
-use Rattle.conf_model.specs.declared.protocol.Command.{Command}
+use Rattle.conf_types.specs.declared.entries.Entries.{Entries}
+use Rattle.socks_grammar.specs.declared.protocol.Command.{Command}
 use Rattle.net_ends.specs.declared.net.Lookup.{Lookup}
 use Rattle.net_ends.specs.Nets.{Plan}
 use Rattle.net_ends.specs.InMemory.{LinkInMemory, NetInMemory, told_of_link, told_of_net}
@@ -36,7 +36,7 @@ use Rattle.socks_machine.specs.View.{view}
 use Rattle.socks_machine.proofs.PhaseFactsLaws.{phase-says}
 use Rattle.socks_machine.proofs.TakeLaws.{met-none}
 use Rattle.socks_machine.proofs.TurnCompletes.{takes-from}
-use Rattle.conf_model.specs.declared.protocol.Method.{Method}
+use Rattle.socks_grammar.specs.declared.protocol.Method.{Method}
 use Rattle.std.specs.List.{list_all}
 use Rattle.std.specs.Prelude.{option_and_then}
 use Rattle.assoc_core.specs.declared.assoc.Assoc.{Assoc}
@@ -94,7 +94,7 @@ pub record Turning : Type 1 where
   pub w : World
   pub new : World
   pub generation : ℕ
-  pub config : Config
+  pub config : Entries
   pub n : ℕ
   pub a : Assoc LinkInMemory
   pub net : NetInMemory

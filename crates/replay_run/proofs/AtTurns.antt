@@ -2,9 +2,9 @@
 use Rattle.std.proofs.Common.{ℕ, zero, suc, ◌≡◌, ◌+◌, ◌∙◌, sym, ap, subst, refl, Bool, true, false, Some, None, List, [], ◌∷◌, ◌++◌, length, length-append, slice_set}
 use Rattle.std.specs.Prelude.{slice_get, All}
 use Rattle.std.proofs.lemmas.List.Elements.{All-head, All-tail}
-use Rattle.conf_model.specs.declared.config.Config.{Config}
-use Rattle.conf_model.specs.Plain.{IsPlain}
-use Rattle.conf_model.specs.declared.user.User.{User}
+use Rattle.conf_types.specs.declared.entries.Entries.{Entries}
+use Rattle.conf_types.specs.Plain.{IsPlain}
+use Rattle.socks_grammar.specs.declared.user.User.{User}
 use Rattle.generation.specs.Published.{Generations}
 use Rattle.rule_list.specs.Rules.{numbered}
 use Rattle.net_ends.specs.InMemory.{LinkInMemory, NetInMemory, told_of_link, told_of_net}
@@ -33,7 +33,7 @@ use Rattle.replay_run.specs.declared.slot.Slot.{Slot}
 use Rattle.replay_run.specs.declared.state.Replay.{Replay}
 use Rattle.replay_run.specs.declared.totals.Totals.{Totals}
 use Rattle.replay_run.specs.AtTurn.{IsTurned, TurnsAt}
-use Rattle.replay_run.specs.Mirrors.{Mirrors, IsConfigured, IsGoing, IsSlot}
+use Rattle.replay_run.specs.Mirrors.{Mirrors, IsGoing, IsSlot}
 use Rattle.replay_run.specs.Played.{is_over}
 use Rattle.replay_run.specs.Shown.{turn_shown}
 use Rattle.replay_run.specs.Taken.{MakesTurn, WritesTurn, left_record, slot_of}
@@ -53,10 +53,11 @@ left-tcp users (Next.Wait a) h = plain-tcp users a.state h
 left-tcp users (Next.Again a) h = plain-tcp users a.state h
 left-tcp users (Next.Done e) h = h.1
 
-goes-over : (ev : TurnEvent) (next : Next LinkInMemory) → ev.next ≡ mark_of next → is_over (Event.Turn ev) ≡ true
-goes-over ev next h = ap (λ (m : NextMark). is_over (Event.Turn (record ev { next = m }))) h ∙ by-mark next
+goes-over : (ev : TurnEvent) (next : Next LinkInMemory) → ev.next ≡ mark_of next → ev.memory ≡ false → is_over (Event.Turn ev) ≡ true
+goes-over ev next h enough = ap (λ (m : NextMark). is_over (Event.Turn (record ev { next = m }))) h
+    ∙ (ap (λ (b : Bool). is_over (Event.Turn (record ev { next = mark_of next; memory = b }))) enough ∙ by-mark next)
   where
-    by-mark : (next : Next LinkInMemory) → is_over (Event.Turn (record ev { next = mark_of next })) ≡ true
+    by-mark : (next : Next LinkInMemory) → is_over (Event.Turn (record ev { next = mark_of next; memory = false })) ≡ true
     by-mark (Next.Wait a) = refl
     by-mark (Next.Again a) = refl
     by-mark (Next.Done e) = refl
@@ -75,7 +76,7 @@ tries-of : (net net' : NetInMemory) (a : Assoc LinkInMemory) (next : Next LinkIn
 tries-of net net' a next stands' s now t = record { failed_c = t.failed_c; failed_t = t.failed_t; tried_c = t.tried_c; tried_t = t.tried_t; fault_is = t.fault_is; unwritten_is = t.unwritten_is }
 
 -- the turn that the script allows at this place, once it is known for the world that the replay stands for
-turned-at : (users : List User) (config : Config) (k : ℕ) (old new : Replay) (a : Assoc LinkInMemory) (net net' : NetInMemory) (next : Next LinkInMemory) (still : Bool) (before : Totals)
+turned-at : (users : List User) (config : Entries) (k : ℕ) (old new : Replay) (a : Assoc LinkInMemory) (net net' : NetInMemory) (next : Next LinkInMemory) (still : Bool) (before : Totals)
     → slice_get old.slots k ≡ Some (Slot.Going a net) → before ≡ totals_of a.state
     → MakesTurn users (old.gens).seen config old.moment old.desk new.desk a net next net' → WritesTurn (old.gens).seen before next old.out new.out still
     → new.slots ≡ slice_set old.slots k (slot_of next net') → new.gens ≡ old.gens → new.moment ≡ old.moment → numbered (old.gens).configs (old.gens).seen ≡ Some config
@@ -89,7 +90,7 @@ turned-at users config k old new a net net' next still before at totals makes wr
   failed = r.failed;
   is_turn = r.is_turn;
   stepped = r.stepped;
-  over = goes-over ev next refl;
+  over = goes-over ev next refl refl;
   mirrors = subst (λ (z : Generations). Mirrors users (StandsFor new.desk) new.desk.cap new.moment (used_up s ev r.failed) r.new z new.slots) (sym gens)
       (subst (λ (z : List Slot). Mirrors users (StandsFor new.desk) new.desk.cap new.moment (used_up s ev r.failed) r.new old.gens z) (sym slots)
       (subst (λ (n : ℕ). Mirrors users (StandsFor new.desk) new.desk.cap n (used_up s ev r.failed) r.new old.gens (slice_set old.slots k (slot_of next net'))) (sym same-moment)
@@ -131,7 +132,7 @@ turned-at users config k old new a net net' next still before at totals makes wr
     put_t = ap (λ (x : Record). length x.sent_t) is ∙ (t.sent_t ∙ ap (λ n. n + ev.sent_t) (sym (ap (λ (x : Totals). x.sent_t) totals)))
 
 -- what the association's outside gives for its turn
-the-turns : (users : List User) (config : Config) (k : ℕ) (old new : Replay) (a : Assoc LinkInMemory) (net net' : NetInMemory) (next : Next LinkInMemory)
+the-turns : (users : List User) (config : Entries) (k : ℕ) (old new : Replay) (a : Assoc LinkInMemory) (net net' : NetInMemory) (next : Next LinkInMemory)
     → slice_get old.slots k ≡ Some (Slot.Going a net) → MakesTurn users (old.gens).seen config old.moment old.desk new.desk a net next net' → numbered (old.gens).configs (old.gens).seen ≡ Some config
     → (s : Surroundings) (w : World) → Mirrors users (StandsFor old.desk) old.desk.cap old.moment s w old.gens old.slots → IsPlain config
     → Turns told_of_link (λ (l : LinkInMemory). l.counts) (StandsFor new.desk) (context w.users w.pubs (old.gens).seen config w.cap w.h w.marks) old.moment (told_of_net net) (told_of_net net') a next
@@ -155,14 +156,14 @@ the-turns users config k old new a net net' next at makes is-config s w m plain 
     over = subst (λ (us : List User). MakesTurn us (old.gens).seen config old.moment old.desk new.desk a net next net') (sym m.users') makes
 
     shown' : numbered w.pubs (old.gens).seen ≡ Some config
-    shown' = ap (λ (z : List Config). numbered z (old.gens).seen) m.pubs ∙ is-config
+    shown' = ap (λ (z : List Entries). numbered z (old.gens).seen) m.pubs ∙ is-config
 
 -- one that has ended was put back
 pub turns-over : (users : List User) (k : ℕ) (old : Replay) (slots : List Slot) (e : Ended LinkInMemory) → slice_get old.slots k ≡ Some (Slot.Over e) → slots ≡ old.slots
     → TurnsAt users k old (record { desk = old.desk; gens = old.gens; moment = old.moment; slots = slots; out = old.out }) true (Some (Slot.Over e))
 turns-over users k old slots e at h = (ap (λ (xs : List Slot). let new : Replay = record { desk = old.desk; gens = old.gens; moment = old.moment; slots = xs; out = old.out } in new) h, refl)
 
-pub turns-at : (users : List User) (config : Config) (k : ℕ) (old new : Replay) (a : Assoc LinkInMemory) (net net' : NetInMemory) (next : Next LinkInMemory) (still : Bool) (before : Totals)
+pub turns-at : (users : List User) (config : Entries) (k : ℕ) (old new : Replay) (a : Assoc LinkInMemory) (net net' : NetInMemory) (next : Next LinkInMemory) (still : Bool) (before : Totals)
     → slice_get old.slots k ≡ Some (Slot.Going a net) → before ≡ totals_of a.state
     → MakesTurn users (old.gens).seen config old.moment old.desk new.desk a net next net' → WritesTurn (old.gens).seen before next old.out new.out still
     → new.slots ≡ slice_set old.slots k (slot_of next net') → new.gens ≡ old.gens → new.moment ≡ old.moment → numbered (old.gens).configs (old.gens).seen ≡ Some config → IsPlain config
@@ -181,6 +182,6 @@ all-at P (y ∷ ys) zero x h at = subst P (the-same y x at) (All-head P y ys h)
     the-same a b h = cc
 all-at P (y ∷ ys) (suc i) x h at = all-at P ys i x (All-tail P y ys h) at
 
-pub configured-at : (configs : List Config) (n : ℕ) (k : Config) → All IsConfigured configs → numbered configs n ≡ Some k → IsConfigured k
+pub configured-at : (configs : List Entries) (n : ℕ) (k : Entries) → All IsPlain configs → numbered configs n ≡ Some k → IsPlain k
 configured-at configs zero k h at = cc
-configured-at configs (suc i) k h at = all-at IsConfigured configs i k h at
+configured-at configs (suc i) k h at = all-at IsPlain configs i k h at

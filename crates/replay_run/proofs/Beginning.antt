@@ -11,8 +11,8 @@ use Rattle.socks_machine.specs.Step.{start as begun}
 use Rattle.replay_script.specs.declared.state.State.{State}
 use Rattle.replay_script.specs.Conditions.{IsServed, IsServedFrom, start}
 use Rattle.replay_run.specs.Behind.{IsBehind}
-use Rattle.replay_run.specs.Mirrors.{IsConfigured}
 use Rattle.replay_run.proofs.Playing.{plays-none}
+use Rattle.conf_types.specs.Plain.{IsPlain}
 
 -- no line that is served gives a number of workers
 one-worker : (state : State) (ls : List ScriptLine) → IsServedFrom state ls → workers_of ls ≡ 1
@@ -63,6 +63,6 @@ is-fresh desk script stands cap served = record {
     seen' = λ h. cc;
     moment = refl;
     sides = tt;
-    plain = All-nil IsConfigured;
+    plain = All-nil IsPlain;
   };
 }

@@ -5,7 +5,7 @@ use Rattle.std.proofs.lemmas.Bool.{and_parts, not-true}
 use Rattle.std.proofs.lemmas.List.{length-set}
 use Rattle.std.specs.Prelude.{slice_get}
 use mathlib.Core.List.{IsPrefix}
-use Rattle.conf_model.specs.declared.user.User.{User}
+use Rattle.socks_grammar.specs.declared.user.User.{User}
 use Rattle.net_ends.specs.declared.kinds.Kind.{Kind}
 use Rattle.net_ends.specs.declared.kinds.Kinds.{Kinds}
 use Rattle.net_ends.specs.Faults.{with_kind}
@@ -29,7 +29,7 @@ use Rattle.socks_machine.specs.Step.{basis_of}
 use Rattle.assoc_core.specs.declared.assoc.Assoc.{Assoc}
 use Rattle.assoc_core.specs.Stands.{Holds, HoldsTarget, EndsBehind, GivesFirst}
 use Rattle.assoc_core.specs.Turns.{looked_as, outer_of}
-use Rattle.replay_script.specs.declared.state.Side.{Side}
+use Rattle.replay_script.specs.declared.state.AssociationState.{AssociationState}
 use Rattle.replay_script.specs.declared.state.State.{State}
 use Rattle.replay_script.specs.Conditions.{IsServedFault, IsServedRoom, after, change_side, may_send, on_side, side_of, with_side}
 use Rattle.replay_run.specs.declared.slot.Slot.{Slot}
@@ -436,11 +436,11 @@ going-planned basis number outcome outer a net o same h = record {
 
 -- ---- the place of a line's association
 
-pub place-of : (l : ScriptLine) (r : Replay) (number : ℕ) (test : Side → Bool) (d : IsDue l r)
+pub place-of : (l : ScriptLine) (r : Replay) (number : ℕ) (test : AssociationState → Bool) (d : IsDue l r)
     → on_side (side_of d.state number) test ≡ true → IsPlace (basis_of d.behind.w) number test d.state.sides d.behind.s.outsides r.slots
 place-of l r number test d h = placed (basis_of d.behind.w) d.state number test d.behind.s.outsides r.slots d.behind.matches.sides d.behind.mirrors.slots' h
 
-pub place-there : (basis : Basis) (number : ℕ) (test : Side → Bool) (sides : List Side) (os : List Outside) (slots : List Slot) → IsPlace basis number test sides os slots → number - 1 < length slots
+pub place-there : (basis : Basis) (number : ℕ) (test : AssociationState → Bool) (sides : List AssociationState) (os : List Outside) (slots : List Slot) → IsPlace basis number test sides os slots → number - 1 < length slots
 place-there basis number test sides os slots p = let h = place-within slots p.k p.slot p.slot-at in let e = p.number' in omega arith
 
 pub still-there : (slots new : List Slot) (at : ℕ) (slot : Slot) → at < length slots → new ≡ slice_set slots at slot → at < length new
@@ -459,19 +459,19 @@ put-back old away new at slot gone changed f found out is back x there =
 -- ---- a line that changes one association
 
 -- what it changes outside, in the reader's state and in the replay
-pub record Changes (basis : Basis) (l : ScriptLine) (number : ℕ) (test : Side → Bool) (outside : Outside → Outside) (side : Side → Side) (slot : Slot → Slot) : Type 0 where
+pub record Changes (basis : Basis) (l : ScriptLine) (number : ℕ) (test : AssociationState → Bool) (outside : Outside → Outside) (side : AssociationState → AssociationState) (slot : Slot → Slot) : Type 0 where
   pub silent : (w : World) → is_silent w l ≡ true
   pub outside' : (s : Surroundings) → outside_after s l ≡ change s number outside
   pub state' : (state : State) → after state l ≡ change_side state number side
-  pub is : (x : Side) (o : Outside) → IsSide x o → IsSide (side x) (outside o)
-  pub stands : (n : ℕ) (x : Side) (o : Outside) (y : Slot) → IsSide x o → test x ≡ true → IsSlot basis n y o → IsSlot basis n (slot y) (outside o)
+  pub is : (x : AssociationState) (o : Outside) → IsSide x o → IsSide (side x) (outside o)
+  pub stands : (n : ℕ) (x : AssociationState) (o : Outside) (y : Slot) → IsSide x o → test x ≡ true → IsSlot basis n y o → IsSlot basis n (slot y) (outside o)
   pub record' : (y : Slot) → record_of (slot y) ≡ record_of y
 
 outside-changed : (s : Surroundings) (number k : ℕ) (f : Outside → Outside) (o : Outside) → number ≡ suc k → slice_get s.outsides k ≡ Some o
     → change s number f ≡ record s { outsides = slice_set s.outsides k (f o) }
 outside-changed s number k f o n at = ap (λ m. change s m f) n ∙ ap (change_at s (suc k) f) at
 
-state-changed : (state : State) (number k : ℕ) (f : Side → Side) (x : Side) → number ≡ suc k → slice_get state.sides k ≡ Some x
+state-changed : (state : State) (number k : ℕ) (f : AssociationState → AssociationState) (x : AssociationState) → number ≡ suc k → slice_get state.sides k ≡ Some x
     → change_side state number f ≡ record state { sides = slice_set state.sides k (f x) }
 state-changed state number k f x n at = ap (λ m. change_side state m f) n ∙ (ap (with_side state (suc k) f) at
     ∙ ap (λ (m : ℕ). let y : State = record state { sides = slice_set state.sides m (f x) } in y) (omega arith))
@@ -480,8 +480,8 @@ records-same : (slots : List Slot) (k : ℕ) (x y : Slot) → slice_get slots k 
 records-same slots k x y at same = map-set-at record_of slots k y
     ∙ (ap (λ (r : Record). slice_set (map record_of slots) k r) same ∙ set-same (map record_of slots) k (record_of x) (get-map-at record_of slots k x at))
 
-pub changed : (users : List User) (script lines : List ScriptLine) (state : State) (old : Replay) (slots : List Slot) (l : ScriptLine) (number : ℕ) (test : Side → Bool)
-    (outside : Outside → Outside) (side : Side → Side) (slot : Slot → Slot) → (b : IsBehind users script lines state old)
+pub changed : (users : List User) (script lines : List ScriptLine) (state : State) (old : Replay) (slots : List Slot) (l : ScriptLine) (number : ℕ) (test : AssociationState → Bool)
+    (outside : Outside → Outside) (side : AssociationState → AssociationState) (slot : Slot → Slot) → (b : IsBehind users script lines state old)
     → Changes (basis_of b.w) l number test outside side slot → on_side (side_of state number) test ≡ true
     → ((x : Slot) → slice_get old.slots (number - 1) ≡ Some x → slots ≡ slice_set old.slots (number - 1) (slot x))
     → IsBehind users script (lines ++ l ∷ []) (after state l) (record old { slots = slots })
@@ -528,12 +528,12 @@ changed users script lines state old slots l number test outside side slot b h a
 
 -- ---- the five lines
 
-pub send-allowed : (users : List User) (bytes : List ℕ) (x : Side) → may_send users bytes x ≡ true → (x.end_c ≡ false) × (is_served_input users (x.c ++ bytes) ≡ true)
+pub send-allowed : (users : List User) (bytes : List ℕ) (x : AssociationState) → may_send users bytes x ≡ true → (x.end_c ≡ false) × (is_served_input users (x.c ++ bytes) ≡ true)
 send-allowed users bytes x h =
     let e = and_parts (not x.end_c) (is_served_input users (x.c ++ bytes)) h in (not-true x.end_c e.0, e.1)
 
 -- where an association is open, the reader's users are those of the world
-pub same-users : (users : List User) (state : State) (number : ℕ) (test : Side → Bool) (w : World) → HasUsers users state → w.users ≡ users → on_side (side_of state number) test ≡ true → state.users ≡ w.users
+pub same-users : (users : List User) (state : State) (number : ℕ) (test : AssociationState → Bool) (w : World) → HasUsers users state → w.users ≡ users → on_side (side_of state number) test ≡ true → state.users ≡ w.users
 same-users users state number test w has is h = has (side-open state number test h) ∙ sym is
 
 pub client-changes : (basis : Basis) (users : List User) (number : ℕ) (bytes : List ℕ) → users ≡ basis.users
@@ -547,7 +547,7 @@ client-changes basis users number bytes same = record {
   record' = by-record;
 }
   where
-    by-slot : (n : ℕ) (x : Side) (o : Outside) (y : Slot) → IsSide x o → may_send users bytes x ≡ true → IsSlot basis n y o → IsSlot basis n (with_arrival bytes y) (record o { c = o.c ++ bytes })
+    by-slot : (n : ℕ) (x : AssociationState) (o : Outside) (y : Slot) → IsSide x o → may_send users bytes x ≡ true → IsSlot basis n y o → IsSlot basis n (with_arrival bytes y) (record o { c = o.c ++ bytes })
     by-slot n x o (Slot.Going a net) i t h = let e = send-allowed users bytes x t in
         going-arrives basis n bytes a net o h (sym i.1 ∙ e.0)
         (subst (λ (us : List User). is_served_input us (o.c ++ bytes) ≡ true) same (subst (λ (z : List ℕ). is_served_input users (z ++ bytes) ≡ true) i.0 e.1))
@@ -564,10 +564,10 @@ unchanged : (state : State) (number : ℕ) → state ≡ change_side state numbe
 unchanged state zero = refl
 unchanged state (suc k) = by (slice_get state.sides k) refl
   where
-    by : (x : Option Side) → slice_get state.sides k ≡ x → state ≡ with_side state (suc k) (λ x. x) x
+    by : (x : Option AssociationState) → slice_get state.sides k ≡ x → state ≡ with_side state (suc k) (λ x. x) x
     by None at = refl
     by (Some side) at = let e : k ≡ suc k - 1 = omega arith in
-        ap (λ (xs : List Side). let y : State = record state { sides = xs } in y) (sym (set-same state.sides k side at) ∙ ap (λ (m : ℕ). slice_set state.sides m side) e)
+        ap (λ (xs : List AssociationState). let y : State = record state { sides = xs } in y) (sym (set-same state.sides k side at) ∙ ap (λ (m : ℕ). slice_set state.sides m side) e)
 
 pub target-changes : (basis : Basis) (number : ℕ) (bytes : List ℕ)
     → Changes basis (ScriptLine.Target number bytes) number (λ x. not x.end_t) (λ o. record o { t = o.t ++ bytes }) (λ x. x) (with_target_arrival bytes)
@@ -580,7 +580,7 @@ target-changes basis number bytes = record {
   record' = by-record;
 }
   where
-    by-slot : (n : ℕ) (x : Side) (o : Outside) (y : Slot) → IsSide x o → not x.end_t ≡ true → IsSlot basis n y o → IsSlot basis n (with_target_arrival bytes y) (record o { t = o.t ++ bytes })
+    by-slot : (n : ℕ) (x : AssociationState) (o : Outside) (y : Slot) → IsSide x o → not x.end_t ≡ true → IsSlot basis n y o → IsSlot basis n (with_target_arrival bytes y) (record o { t = o.t ++ bytes })
     by-slot n x o (Slot.Going a net) i t h = going-target-arrives basis n bytes a net o h (sym i.2 ∙ not-true x.end_t t)
     by-slot n x o (Slot.Over e) i t h = h
     by-slot n x o Slot.Away i t h = absurd h
@@ -601,7 +601,7 @@ client-end-changes basis number = record {
   record' = by-record;
 }
   where
-    by-slot : (n : ℕ) (x : Side) (o : Outside) (y : Slot) → IsSide x o → not x.end_c ≡ true → IsSlot basis n y o → IsSlot basis n (with_client_end y) (record o { end_c = true })
+    by-slot : (n : ℕ) (x : AssociationState) (o : Outside) (y : Slot) → IsSide x o → not x.end_c ≡ true → IsSlot basis n y o → IsSlot basis n (with_client_end y) (record o { end_c = true })
     by-slot n x o (Slot.Going a net) i t h = going-ends basis n a net o h (sym i.1 ∙ not-true x.end_c t)
     by-slot n x o (Slot.Over e) i t h = h
     by-slot n x o Slot.Away i t h = absurd h
@@ -622,7 +622,7 @@ target-end-changes basis number = record {
   record' = by-record;
 }
   where
-    by-slot : (n : ℕ) (x : Side) (o : Outside) (y : Slot) → IsSide x o → not x.end_t ≡ true → IsSlot basis n y o → IsSlot basis n (with_target_end y) (record o { end_t = true })
+    by-slot : (n : ℕ) (x : AssociationState) (o : Outside) (y : Slot) → IsSide x o → not x.end_t ≡ true → IsSlot basis n y o → IsSlot basis n (with_target_end y) (record o { end_t = true })
     by-slot n x o (Slot.Going a net) i t h = going-target-ends basis n a net o h (sym i.2 ∙ not-true x.end_t t)
     by-slot n x o (Slot.Over e) i t h = h
     by-slot n x o Slot.Away i t h = absurd h
@@ -643,7 +643,7 @@ room-changes basis number side most linked = record {
   record' = by-record side;
 }
   where
-    by-side : (side : Object) → IsServedRoom side → (n : ℕ) (x : Side) (o : Outside) (y : Slot) → IsSide x o → true ≡ true → IsSlot basis n y o
+    by-side : (side : Object) → IsServedRoom side → (n : ℕ) (x : AssociationState) (o : Outside) (y : Slot) → IsSide x o → true ≡ true → IsSlot basis n y o
         → IsSlot basis n (with_side_narrow side most y) (record o { no_room = room_for side most o.no_room })
     by-side Object.Client l n x o (Slot.Going a net) i t h = going-client-narrow basis n most a net o h
     by-side Object.Client l n x o (Slot.Over e) i t h = h
@@ -707,7 +707,7 @@ lookup-changes basis number outer outcome same = record {
   record' = by-record;
 }
   where
-    by-slot : (n : ℕ) (x : Side) (o : Outside) (y : Slot) → IsSide x o → not x.looked ≡ true → IsSlot basis n y o → IsSlot basis n (with_lookup outcome y) (record o { lookup = outer })
+    by-slot : (n : ℕ) (x : AssociationState) (o : Outside) (y : Slot) → IsSide x o → not x.looked ≡ true → IsSlot basis n y o → IsSlot basis n (with_lookup outcome y) (record o { lookup = outer })
     by-slot n x o (Slot.Going a net) i t h = going-looked basis n outcome outer a net o same h
     by-slot n x o (Slot.Over e) i t h = h
     by-slot n x o Slot.Away i t h = absurd h
@@ -728,7 +728,7 @@ dial-changes basis number outer outcome same = record {
   record' = by-record;
 }
   where
-    by-slot : (n : ℕ) (x : Side) (o : Outside) (y : Slot) → IsSide x o → not x.dialled ≡ true → IsSlot basis n y o → IsSlot basis n (with_plan outcome y) (record o { dial = outer })
+    by-slot : (n : ℕ) (x : AssociationState) (o : Outside) (y : Slot) → IsSide x o → not x.dialled ≡ true → IsSlot basis n y o → IsSlot basis n (with_plan outcome y) (record o { dial = outer })
     by-slot n x o (Slot.Going a net) i t h = going-planned basis n outcome outer a net o same h
     by-slot n x o (Slot.Over e) i t h = h
     by-slot n x o Slot.Away i t h = absurd h
@@ -739,7 +739,7 @@ dial-changes basis number outer outcome same = record {
     by-record Slot.Away = refl
 
 -- more can arrive from the client at the place of its line
-pub may-arrive : (basis : Basis) (users : List User) (number : ℕ) (bytes : List ℕ) (sides : List Side) (os : List Outside) (slots : List Slot) → IsPlace basis number (may_send users bytes) sides os slots
+pub may-arrive : (basis : Basis) (users : List User) (number : ℕ) (bytes : List ℕ) (sides : List AssociationState) (os : List Outside) (slots : List Slot) → IsPlace basis number (may_send users bytes) sides os slots
     → (slot : Slot) → slice_get slots (number - 1) ≡ Some slot → MayArrive slot
 may-arrive basis users number bytes sides os slots p slot found = subst MayArrive same (by-slot p.slot p.stands)
   where
@@ -758,7 +758,7 @@ may-arrive basis users number bytes sides os slots p slot found = subst MayArriv
     by-slot Slot.Away h = absurd h
 
 -- more can arrive from the target at the place of its line
-pub may-arrive-at-target : (basis : Basis) (number : ℕ) (sides : List Side) (os : List Outside) (slots : List Slot) → IsPlace basis number (λ x. not x.end_t) sides os slots
+pub may-arrive-at-target : (basis : Basis) (number : ℕ) (sides : List AssociationState) (os : List Outside) (slots : List Slot) → IsPlace basis number (λ x. not x.end_t) sides os slots
     → (slot : Slot) → slice_get slots (number - 1) ≡ Some slot → MayArriveAtTarget slot
 may-arrive-at-target basis number sides os slots p slot found = subst MayArriveAtTarget same (by-slot p.slot p.stands)
   where

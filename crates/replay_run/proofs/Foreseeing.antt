@@ -3,10 +3,10 @@ use Rattle.std.proofs.Common.{ℕ, ◌≡◌, ◌<◌, ◌-◌, ◌∙◌, sym, 
 use Rattle.std.proofs.lemmas.Bool.{and_parts, not-true, eqb-true}
 use Rattle.std.proofs.lemmas.List.{length-set}
 use Rattle.addr_pattern.specs.declared.endpoint.Endpoint.{Endpoint}
-use Rattle.conf_model.specs.declared.user.User.{User}
+use Rattle.socks_grammar.specs.declared.user.User.{User}
 use Rattle.socks_machine.specs.declared.script.ScriptLine.{ScriptLine}
 use Rattle.socks_machine.specs.Follows.{users_of}
-use Rattle.replay_script.specs.declared.state.Side.{Side}
+use Rattle.replay_script.specs.declared.state.AssociationState.{AssociationState}
 use Rattle.replay_script.specs.declared.state.State.{State}
 use Rattle.replay_script.specs.Conditions.{IsServedForm, IsServedFrom, after, allows, fresh_side, side_of, start, with_side}
 use Rattle.replay_run.specs.Mirrors.{HasUsers}
@@ -28,19 +28,19 @@ pub record Leaves (state : State) (l : ScriptLine) : Type 0 where
   pub open' : 0 < length state.sides → 0 < length (after state l).sides
   pub others : (rest : List ScriptLine) → users_of (l ∷ rest) ≡ users_of rest
 
-set-users : (state : State) (a : ℕ) (f : Side → Side) (x : Option Side) → (with_side state a f x).users ≡ state.users
+set-users : (state : State) (a : ℕ) (f : AssociationState → AssociationState) (x : Option AssociationState) → (with_side state a f x).users ≡ state.users
 set-users state a f None = refl
 set-users state a f (Some side) = refl
 
-set-given : (state : State) (a : ℕ) (f : Side → Side) (x : Option Side) → (with_side state a f x).given ≡ state.given
+set-given : (state : State) (a : ℕ) (f : AssociationState → AssociationState) (x : Option AssociationState) → (with_side state a f x).given ≡ state.given
 set-given state a f None = refl
 set-given state a f (Some side) = refl
 
-set-open : (state : State) (a : ℕ) (f : Side → Side) (x : Option Side) → 0 < length state.sides → 0 < length (with_side state a f x).sides
+set-open : (state : State) (a : ℕ) (f : AssociationState → AssociationState) (x : Option AssociationState) → 0 < length state.sides → 0 < length (with_side state a f x).sides
 set-open state a f None h = h
 set-open state a f (Some side) h = let e = length-set state.sides (a - 1) (f side) in omega (arith, e, h)
 
-leaves-changed : (state : State) (l : ScriptLine) (a : ℕ) (f : Side → Side) → after state l ≡ with_side state a f (side_of state a) → ((rest : List ScriptLine) → users_of (l ∷ rest) ≡ users_of rest) → Leaves state l
+leaves-changed : (state : State) (l : ScriptLine) (a : ℕ) (f : AssociationState → AssociationState) → after state l ≡ with_side state a f (side_of state a) → ((rest : List ScriptLine) → users_of (l ∷ rest) ≡ users_of rest) → Leaves state l
 leaves-changed state l a f is others = record {
   users = ap (λ (s : State). s.users) is ∙ set-users state a f (side_of state a);
   given' = ap (λ (s : State). s.given) is ∙ set-given state a f (side_of state a);

@@ -1,7 +1,7 @@
 -- A line that a replay has met: which one it is, and that the replay is behind it.
 use Rattle.std.proofs.Common.{ℕ, suc, ◌≡◌, ◌<◌, ◌+◌, ◌∙◌, sym, ap, subst, List, [], ◌∷◌, ◌++◌, length, take, drop, get_or, drop-cons, arith}
 use Rattle.std.proofs.lemmas.List.{take_more}
-use Rattle.conf_model.specs.declared.user.User.{User}
+use Rattle.socks_grammar.specs.declared.user.User.{User}
 use Rattle.socks_machine.specs.declared.script.ScriptLine.{ScriptLine}
 use Rattle.replay_script.specs.declared.state.State.{State}
 use Rattle.replay_script.specs.Conditions.{IsServedForm, IsServedFrom}

@@ -6,8 +6,8 @@ use Rattle.std.proofs.lemmas.List.Elements.{All-push}
 use Rattle.std.specs.Prelude.{codes, slice_get}
 use Rattle.addr_pattern.specs.declared.endpoint.Endpoint.{Endpoint}
 use Rattle.addr_pattern.specs.AddressText.{number_text}
-use Rattle.conf_model.specs.declared.config.Config.{Config}
-use Rattle.conf_model.specs.declared.user.User.{User}
+use Rattle.conf_types.specs.declared.entries.Entries.{Entries}
+use Rattle.socks_grammar.specs.declared.user.User.{User}
 use Rattle.net_ends.specs.InMemory.{told_of_link, fresh_link}
 use Rattle.socks_machine.specs.declared.script.ScriptLine.{ScriptLine}
 use Rattle.socks_machine.specs.declared.world.Event.{Event}
@@ -21,19 +21,20 @@ use Rattle.socks_machine.specs.Transcript.{event_line, line}
 use Rattle.generation.specs.Published.{Generations, with_config}
 use Rattle.assoc_core.specs.Stands.{Stands}
 use Rattle.assoc_core.proofs.Later.{stands-published}
-use Rattle.replay_script.specs.declared.state.Side.{Side}
+use Rattle.replay_script.specs.declared.state.AssociationState.{AssociationState}
 use Rattle.replay_script.specs.declared.state.State.{State}
 use Rattle.replay_script.specs.Conditions.{IsServedForm, after, allows, fresh_side}
 use Rattle.replay_run.specs.declared.slot.Slot.{Slot}
 use Rattle.replay_run.specs.declared.state.Replay.{Replay}
 use Rattle.replay_run.specs.Behind.{GoesBehind, IsBehind}
 use Rattle.replay_run.specs.Changes.{opened_slot, room_for_replies}
-use Rattle.replay_run.specs.Mirrors.{AreSides, AreSlots, HasUsers, IsConfigured, IsSlot, record_of, seen_by_workers}
+use Rattle.replay_run.specs.Mirrors.{AreSides, AreSlots, HasUsers, IsSlot, record_of, seen_by_workers}
 use Rattle.replay_run.specs.Played.{Played}
 use Rattle.replay_run.specs.Shown.{open_shown, publish_shown, see_shown}
 use Rattle.replay_run.proofs.Places.{sides-more}
 use Rattle.replay_run.proofs.Playing.{plays-event, plays-silent}
 use Rattle.replay_run.proofs.Slots.{slots-more}
+use Rattle.conf_types.specs.Plain.{IsPlain}
 
 -- ---- the users come
 
@@ -84,12 +85,12 @@ moves users now r script lines state form allowed has b = record {
 
 -- ---- a configuration is published
 
-publish-line : (w : World) (k : Config) (n : ℕ) → length w.pubs ≡ n → event_line w (Event.Publish k) ≡ publish_shown n
+publish-line : (w : World) (k : Entries) (n : ℕ) → length w.pubs ≡ n → event_line w (Event.Publish k) ≡ publish_shown n
 unfolding publish_shown
 publish-line w k n h = ap (λ n. line (codes "publish" ∷ number_text n ∷ [])) h
 
 -- what stood for its record stands for it still
-slots-later : (users : List User) (pubs : List Config) (k : Config) (number : ℕ) (slots : List Slot) (os : List Outside) → AreSlots (socks users pubs) number slots os
+slots-later : (users : List User) (pubs : List Entries) (k : Entries) (number : ℕ) (slots : List Slot) (os : List Outside) → AreSlots (socks users pubs) number slots os
     → AreSlots (socks users (pubs ++ k ∷ [])) number slots os
 slots-later users pubs k number [] [] h = tt
 slots-later users pubs k number [] (o ∷ os) h = absurd h
@@ -113,7 +114,7 @@ slots-later users pubs k number (slot ∷ slots) (o ∷ os) h = (slot-later numb
     slot-later n (Slot.Over e) o h = h
     slot-later n Slot.Away o h = h
 
-pub publishes : (users : List User) (script lines : List ScriptLine) (state : State) (k : Config) (old : Replay) (gens : Generations) (out : List ℕ)
+pub publishes : (users : List User) (script lines : List ScriptLine) (state : State) (k : Entries) (old : Replay) (gens : Generations) (out : List ℕ)
     → gens ≡ with_config old.gens k → out ≡ old.out ++ publish_shown (length gens.configs) → IsServedForm (ScriptLine.Publish k) → IsBehind users script lines state old
     → IsBehind users script (lines ++ ScriptLine.Publish k ∷ []) (after state (ScriptLine.Publish k)) (record old { gens = gens; out = out })
 publishes users script lines state k old gens out is written form b =
@@ -152,7 +153,7 @@ publishes users script lines state k old gens out is written form b =
         seen' = b.matches.seen';
         moment = b.matches.moment;
         sides = b.matches.sides;
-        plain = All-push IsConfigured old.gens.configs k b.matches.plain form;
+        plain = All-push IsPlain old.gens.configs k b.matches.plain form;
       };
     }
 
@@ -226,7 +227,7 @@ open-line : (w : World) (number : ℕ) (peer local : Endpoint) (now : ℕ) → e
 unfolding open_shown
 open-line w number peer local now = refl
 
-sides-length : (sides : List Side) (os : List Outside) → AreSides sides os → length sides ≡ length os
+sides-length : (sides : List AssociationState) (os : List Outside) → AreSides sides os → length sides ≡ length os
 sides-length [] [] h = refl
 sides-length [] (o ∷ os) h = absurd h
 sides-length (x ∷ xs) [] h = absurd h

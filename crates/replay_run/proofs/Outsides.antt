@@ -2,15 +2,15 @@
 use Rattle.std.proofs.Common.{ℕ, ◌≡◌, ◌≤◌, ◌==◌, ◌+◌, ◌∙◌, sym, ap, subst, refl, Bool, true, false, if◌then◌else◌, Option, Some, None, List, [], ◌∷◌, ◌++◌, length, arith, length-append, length-drop}
 use Rattle.addr_pattern.specs.declared.addr.Addr.{Addr}
 use Rattle.addr_pattern.specs.declared.endpoint.Endpoint.{Endpoint}
-use Rattle.conf_model.specs.declared.protocol.Version.{Version}
-use Rattle.conf_model.specs.declared.protocol.Command.{Command}
-use Rattle.conf_model.specs.Handshake.{version_of}
+use Rattle.socks_grammar.specs.declared.protocol.Version.{Version}
+use Rattle.socks_grammar.specs.declared.protocol.Command.{Command}
+use Rattle.socks_grammar.specs.Handshake.{version_of}
 use Rattle.net_ends.specs.InMemory.{LinkInMemory, NetInMemory, told_of_link, told_of_net}
 use Rattle.net_ends.specs.Told.{Arrival}
 use Rattle.socks_machine.specs.declared.cause.Cause.{Cause}
 use Rattle.socks_machine.specs.declared.record.Chosen.{Chosen}
 use Rattle.std.specs.Int.{w16, to_be_bytes}
-use Rattle.conf_model.specs.Grammar.{spelled_addr}
+use Rattle.socks_grammar.specs.Grammar.{spelled_addr}
 use Rattle.socks_machine.specs.Replies.{Answer, RefusedAt, answer_to, bytes_of_answer, method_reply}
 use Rattle.socks_machine.specs.Socks.{chosen_reply, passed_reply, success}
 use Rattle.socks_machine.specs.Script.{Outside}

@@ -3,20 +3,20 @@ use Rattle.std.proofs.Common.{ℕ, zero, suc, ◌≡◌, ◌<◌, ◌+◌, subst
 use Rattle.std.specs.Prelude.{slice_get}
 use Rattle.socks_machine.specs.Basis.{Basis}
 use Rattle.socks_machine.specs.Script.{Outside}
-use Rattle.replay_script.specs.declared.state.Side.{Side}
+use Rattle.replay_script.specs.declared.state.AssociationState.{AssociationState}
 use Rattle.replay_script.specs.declared.state.State.{State}
 use Rattle.replay_script.specs.Conditions.{on_side, side_of}
 use Rattle.replay_run.specs.declared.slot.Slot.{Slot}
 use Rattle.replay_run.specs.Mirrors.{AreSides, AreSlots, IsSlot}
 
 -- what the reader keeps of an association is what is outside
-abbrev pub IsSide : Side → Outside → Type 0
+abbrev pub IsSide : AssociationState → Outside → Type 0
 IsSide side o = (side.c ≡ o.c) × (side.end_c ≡ o.end_c) × (side.end_t ≡ o.end_t)
 
 -- an association that is open, and passes a test
-pub record IsPlace (basis : Basis) (number : ℕ) (test : Side → Bool) (sides : List Side) (os : List Outside) (slots : List Slot) : Type 0 where
+pub record IsPlace (basis : Basis) (number : ℕ) (test : AssociationState → Bool) (sides : List AssociationState) (os : List Outside) (slots : List Slot) : Type 0 where
   pub k : ℕ
-  pub side : Side
+  pub side : AssociationState
   pub o : Outside
   pub slot : Slot
   pub number' : number ≡ suc k
@@ -30,7 +30,7 @@ pub record IsPlace (basis : Basis) (number : ℕ) (test : Side → Bool) (sides 
 same-some : {A : Type 0} (a b : A) → Some a ≡ Some b → a ≡ b
 same-some a b h = cc
 
-outside-of : (sides : List Side) (os : List Outside) (k : ℕ) (side : Side) → AreSides sides os → slice_get sides k ≡ Some side
+outside-of : (sides : List AssociationState) (os : List Outside) (k : ℕ) (side : AssociationState) → AreSides sides os → slice_get sides k ≡ Some side
     → (o : Outside) × (slice_get os k ≡ Some o) × IsSide side o
 outside-of [] os k side h at = cc
 outside-of (x ∷ xs) [] k side h at = absurd h
@@ -46,11 +46,11 @@ slot-of basis number (s ∷ ss) (x ∷ os) zero o h at = (s, refl, subst (λ z. 
 slot-of basis number (s ∷ ss) (x ∷ os) (suc k) o h at =
     let r = slot-of basis (suc number) ss os k o h.1 at in (r.0, r.1, subst (λ (n : ℕ). IsSlot basis n r.0 o) (omega arith) r.2)
 
-passed : (x : Option Side) (test : Side → Bool) → on_side x test ≡ true → (side : Side) × (x ≡ Some side) × (test side ≡ true)
+passed : (x : Option AssociationState) (test : AssociationState → Bool) → on_side x test ≡ true → (side : AssociationState) × (x ≡ Some side) × (test side ≡ true)
 passed None test h = cc
 passed (Some side) test h = (side, refl, h)
 
-pub placed : (basis : Basis) (state : State) (number : ℕ) (test : Side → Bool) (os : List Outside) (slots : List Slot) → AreSides state.sides os → AreSlots basis 1 slots os
+pub placed : (basis : Basis) (state : State) (number : ℕ) (test : AssociationState → Bool) (os : List Outside) (slots : List Slot) → AreSides state.sides os → AreSlots basis 1 slots os
     → on_side (side_of state number) test ≡ true → IsPlace basis number test state.sides os slots
 placed basis state zero test os slots sides are h = cc
 placed basis state (suc k) test os slots sides are h =
@@ -70,7 +70,7 @@ placed basis state (suc k) test os slots sides are h =
       stands = subst (λ (n : ℕ). IsSlot basis n s.0 o.0) (omega arith) s.2;
     }
 
-pub sides-set : (sides : List Side) (os : List Outside) (k : ℕ) (side : Side) (o : Outside) → AreSides sides os → IsSide side o
+pub sides-set : (sides : List AssociationState) (os : List Outside) (k : ℕ) (side : AssociationState) (o : Outside) → AreSides sides os → IsSide side o
     → AreSides (slice_set sides k side) (slice_set os k o)
 sides-set [] [] k side o h is = tt
 sides-set [] (x ∷ os) k side o h is = absurd h
@@ -78,7 +78,7 @@ sides-set (y ∷ ys) [] k side o h is = absurd h
 sides-set (y ∷ ys) (x ∷ os) zero side o h is = (is.0, is.1, is.2, h.3)
 sides-set (y ∷ ys) (x ∷ os) (suc k) side o h is = (h.0, h.1, h.2, sides-set ys os k side o h.3 is)
 
-pub sides-more : (sides : List Side) (os : List Outside) (side : Side) (o : Outside) → AreSides sides os → IsSide side o → AreSides (sides ++ side ∷ []) (os ++ o ∷ [])
+pub sides-more : (sides : List AssociationState) (os : List Outside) (side : AssociationState) (o : Outside) → AreSides sides os → IsSide side o → AreSides (sides ++ side ∷ []) (os ++ o ∷ [])
 sides-more [] [] side o h is = (is.0, is.1, is.2, tt)
 sides-more [] (x ∷ os) side o h is = absurd h
 sides-more (y ∷ ys) [] side o h is = absurd h
@@ -91,7 +91,7 @@ place-within (y ∷ ys) zero x h = omega arith
 place-within (y ∷ ys) (suc k) x h = let r = place-within ys k x h in omega (arith, r)
 
 -- a test of an association is passed only where one is open
-pub side-open : (state : State) (number : ℕ) (test : Side → Bool) → on_side (side_of state number) test ≡ true → 0 < length state.sides
+pub side-open : (state : State) (number : ℕ) (test : AssociationState → Bool) → on_side (side_of state number) test ≡ true → 0 < length state.sides
 side-open state zero test h = cc
 side-open state (suc k) test h =
     let p = passed (slice_get state.sides k) test h in

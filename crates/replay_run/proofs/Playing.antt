@@ -2,6 +2,7 @@
 use Rattle.std.proofs.Common.{ℕ, ◌≡◌, ◌∙◌, sym, ap, subst, refl, Bool, true, false, ◌&&◌, not, Option, Some, None, List, [], ◌∷◌, ◌++◌, append_assoc, append-nil}
 use Rattle.std.proofs.lemmas.List.Folds.{list_all-append}
 use Rattle.std.specs.List.{list_all, list_any}
+use Rattle.socks_machine.specs.declared.cause.StopBy.{StopBy}
 use Rattle.socks_machine.specs.declared.script.ScriptLine.{ScriptLine}
 use Rattle.socks_machine.specs.declared.world.Event.{Event}
 use Rattle.socks_machine.specs.declared.world.NextMark.{NextMark}
@@ -9,10 +10,12 @@ use Rattle.socks_machine.specs.declared.world.TurnEvent.{TurnEvent}
 use Rattle.socks_machine.specs.declared.world.World.{World}
 use Rattle.socks_machine.specs.Equal.{mark_eq}
 use Rattle.socks_machine.specs.Follows.{Follows, Rounds, Closing, IsEventOf, IsTurnOf, Failing, surroundings_after, used_up, begins, IsReplay}
+use Rattle.socks_machine.specs.History.{last_mark}
 use Rattle.socks_machine.specs.Script.{Surroundings, outside_after, is_silent, is_still, next_in_round, going, first_surroundings}
 use Rattle.socks_machine.specs.Step.{step, steps, turns_end, goes_on, is_turn_of}
 use Rattle.socks_machine.specs.Taking.{◌>>=◌}
 use Rattle.socks_machine.specs.Transcript.{traced, line_before, event_line, with_rounds, with_ends, ends, line}
+use Rattle.socks_machine.proofs.MemoryLaws.{has_memory, run-spared}
 use Rattle.std.specs.Prelude.{codes, ◌≢◌, length}
 use Rattle.replay_run.specs.Played.{is_over, Traces, Played, InRounds}
 
@@ -93,26 +96,42 @@ plays-event script lines s w new out l e used h loud is k over = record {
 abbrev pub close_line : List ℕ
 close_line = line (codes "close" ∷ [])
 
-over-ends : (e : Event) (es : List Event) → is_over e ≡ true → goes_on e es ≡ false
-over-ends (Event.Publish k) es h = refl
-over-ends (Event.See w g) es h = refl
-over-ends (Event.Open w n p l now) es h = refl
-over-ends (Event.Stop by) es h = refl
-over-ends (Event.Turn ev) es h = not-going (mark_eq ev.next NextMark.Going) h
-  where
-    not-going : (b : Bool) → not b ≡ true → b && list_any (is_turn_of ev.number) es ≡ false
-    not-going true k = cc
-    not-going false k = refl
-
 both-true : (a b : Bool) → a && b ≡ true → (a ≡ true) × (b ≡ true)
 both-true true true h = (refl, refl)
 both-true true false h = cc
 both-true false b h = cc
 
+over-ends : (e : Event) (es : List Event) → is_over e ≡ true → goes_on e es ≡ false
+over-ends (Event.Publish k) es h = refl
+over-ends (Event.See w g) es h = refl
+over-ends (Event.Open w n p l now) es h = refl
+over-ends (Event.Stop by) es h = refl
+over-ends (Event.Turn ev) es h = not-going (mark_eq ev.next NextMark.Going) (both-true (not (mark_eq ev.next NextMark.Going)) (not ev.memory) h).0
+  where
+    not-going : (b : Bool) → not b ≡ true → b && list_any (is_turn_of ev.number) es ≡ false
+    not-going true k = cc
+    not-going false k = refl
+
 all-over-end : (es : List Event) → list_all is_over es ≡ true → turns_end es ≡ true
 all-over-end [] h = refl
 all-over-end (e ∷ es) h = let k = both-true (is_over e) (list_all is_over es) h in
     ap (λ b. not b && turns_end es) (over-ends e es k.0) ∙ all-over-end es k.1
+
+-- .. and memory was enough for each
+over-enough : (e : Event) → is_over e ≡ true → has_memory e ≡ true
+over-enough (Event.Publish k) h = refl
+over-enough (Event.See w g) h = refl
+over-enough (Event.Open w n p l now) h = refl
+over-enough (Event.Stop by) h = refl
+over-enough (Event.Turn ev) h = (both-true (not (mark_eq ev.next NextMark.Going)) (not ev.memory) h).1
+
+all-over-enough : (es : List Event) → list_all is_over es ≡ true → list_all has_memory es ≡ true
+all-over-enough [] h = refl
+all-over-enough (e ∷ es) h = let k = both-true (is_over e) (list_all is_over es) h in
+    ap (λ b. b && list_all has_memory es) (over-enough e k.0) ∙ all-over-enough es k.1
+
+unmarked : (mark : Option StopBy) → mark ≡ None → mark ≢ Some StopBy.Log
+unmarked mark none is = let e : None ≡ Some StopBy.Log = sym none ∙ is in absurd (cc)
 
 steps-append : (x : Option World) (es fs : List Event) → steps x (es ++ fs) ≡ steps (steps x es) fs
 steps-append x [] fs = refl
@@ -120,17 +139,23 @@ steps-append x (e ∷ es) fs = steps-append (x >>= λ y. step y e) es fs
 
 -- what was done behind all lines, with these rounds behind it
 replay-of : (script : List ScriptLine) (s : Surroundings) (events rounds : List Event) (between w : World) (lo out : List ℕ)
-    → Follows first_surroundings (begins script) script events rounds → Traces (begins script) events between lo → Traces between rounds w out
+    → Follows first_surroundings (begins script) script events rounds → Traces (begins script) events between lo → Traces between rounds w out → last_mark w.marks ≡ None
     → IsReplay script w ((lo ++ close_line) ++ (out ++ ends w))
-replay-of script s events rounds between w lo out f h k = record {
+replay-of script s events rounds between w lo out f h k unstopped = record {
   events = events;
   rounds = rounds;
   follows = f;
-  ran = ap (λ b. elim b [ true ↦ steps (Some (begins script)) (events ++ rounds) | false ↦ None ])
-      (all-over-end (events ++ rounds) (list_all-append is_over events rounds ∙ (ap (λ b. b && list_all is_over rounds) h.over ∙ k.over)))
-      ∙ (steps-append (Some (begins script)) events rounds ∙ (ap (λ x. steps x rounds) h.ran ∙ k.ran));
+  ran = ap (λ b. elim b [ true ↦ steps (Some (begins script)) (events ++ rounds) | false ↦ None ]) (all-over-end (events ++ rounds) over) ∙ ran;
   out' = sym (ap (with_rounds rounds) h.traced' ∙ ap (λ (z : List ℕ × Option World). (lo ++ close_line) ++ with_ends z) k.traced');
+  no_memory_cause = run-spared (begins script) w (events ++ rounds) ran (all-over-enough (events ++ rounds) over) refl;
+  no_log_mark = unmarked (last_mark w.marks) unstopped;
 }
+  where
+    over : list_all is_over (events ++ rounds) ≡ true
+    over = list_all-append is_over events rounds ∙ (ap (λ b. b && list_all is_over rounds) h.over ∙ k.over)
+
+    ran : steps (Some (begins script)) (events ++ rounds) ≡ Some w
+    ran = steps-append (Some (begins script)) events rounds ∙ (ap (λ x. steps x rounds) h.ran ∙ k.ran)
 
 follows-all : (script : List ScriptLine) (s : Surroundings) (w : World) (out : List ℕ) (h : Played script script s w out) (rounds : List Event)
     → Closing s w rounds → Follows first_surroundings (begins script) script h.events rounds
@@ -140,9 +165,10 @@ follows-all script s w out h rounds c =
     (h.plays [] [] rounds (Follows.ends c)))
 
 -- nothing was published: there are no rounds
-pub ends-unpublished : (script : List ScriptLine) (s : Surroundings) (w : World) (out : List ℕ) → Played script script s w out → w.pubs ≡ []
+pub ends-unpublished : (script : List ScriptLine) (s : Surroundings) (w : World) (out : List ℕ) → Played script script s w out → w.pubs ≡ [] → last_mark w.marks ≡ None
     → IsReplay script w ((out ++ close_line) ++ ([] ++ ends w))
-ends-unpublished script s w out h none = replay-of script s h.events [] w w out [] (follows-all script s w out h [] (Closing.nothing none)) h.traces (traces-none w)
+ends-unpublished script s w out h none unstopped =
+    replay-of script s h.events [] w w out [] (follows-all script s w out h [] (Closing.nothing none)) h.traces (traces-none w) unstopped
 
 -- worker 1 sees, and the rounds begin
 pub rounds-begin : (script : List ScriptLine) (s : Surroundings) (w new : World) (out : List ℕ) → Played script script s w out → w.pubs ≢ []
@@ -173,7 +199,7 @@ round-goes-on script s w new n ns still lo out ev used h is k over = record {
 }
 
 -- the rounds are over
-pub rounds-end : (script : List ScriptLine) (s : Surroundings) (w : World) (still : Bool) (lo out : List ℕ) → InRounds script s w [] still lo out
+pub rounds-end : (script : List ScriptLine) (s : Surroundings) (w : World) (still : Bool) (lo out : List ℕ) → InRounds script s w [] still lo out → last_mark w.marks ≡ None
     → IsReplay script w ((lo ++ close_line) ++ (out ++ ends w))
-rounds-end script s w still lo out h = replay-of script s h.events h.rounds h.between w lo out
-    (subst (λ (z : List Event). Follows first_surroundings (begins script) script h.events z) (append-nil h.rounds) (h.follows [] Rounds.over)) h.lines' h.traces
+rounds-end script s w still lo out h unstopped = replay-of script s h.events h.rounds h.between w lo out
+    (subst (λ (z : List Event). Follows first_surroundings (begins script) script h.events z) (append-nil h.rounds) (h.follows [] Rounds.over)) h.lines' h.traces unstopped

@@ -2,8 +2,8 @@
 use Rattle.std.proofs.Common.{ℕ, zero, suc, ◌≡◌, ◌≢◌, ◌<◌, ◌∙◌, sym, ap, subst, refl, Bool, true, false, ◌&&◌, if◌then◌else◌, Option, Some, List, [], ◌∷◌, ◌++◌, length, map, arith, append_assoc, append-nil}
 use Rattle.std.specs.Prelude.{drop, slice_get}
 use Rattle.std.proofs.lemmas.List.{drop_all}
-use Rattle.conf_model.specs.declared.config.Config.{Config}
-use Rattle.conf_model.specs.declared.user.User.{User}
+use Rattle.conf_types.specs.declared.entries.Entries.{Entries}
+use Rattle.socks_grammar.specs.declared.user.User.{User}
 use Rattle.generation.specs.Published.{Generations}
 use Rattle.net_ends.specs.InMemory.{LinkInMemory, NetInMemory}
 use Rattle.socks_machine.specs.declared.record.Record.{Record}
@@ -176,7 +176,7 @@ whole-round users script true r h = record {
   w = h.w;
   done = subst (λ (out : List ℕ). IsReplay script h.w out) (sym (ap (λ (z : List ℕ). z ++ ends h.w) h.written ∙ closes-as h.lines_out h.out (ends h.w)))
       (rounds-end script h.s h.w true h.lines_out h.out
-      (subst (λ (ns : List ℕ). At script h.s h.w (next_in_round ns true (Some h.w)) h.lines_out h.out) (none-comes h.w r.slots (h.mirrors).records) h.rounds));
+      (subst (λ (ns : List ℕ). At script h.s h.w (next_in_round ns true (Some h.w)) h.lines_out h.out) (none-comes h.w r.slots (h.mirrors).records) h.rounds) (h.mirrors).marks);
   mirrors = h.mirrors;
 }
 whole-round users script false r h = record {
@@ -197,10 +197,10 @@ see-as : (w : World) (n m : ℕ) → n ≡ m → event_line w (Event.See 1 n) �
 unfolding see_shown
 see-as w n m h = ap (λ (m : ℕ). event_line w (Event.See 1 m)) h
 
-some-published : (pubs configs : List Config) → pubs ≡ configs → 0 < length configs → pubs ≢ []
+some-published : (pubs configs : List Entries) → pubs ≡ configs → 0 < length configs → pubs ≢ []
 some-published pubs configs h some = λ e. let n = ap length (sym h ∙ e) in absurd (omega (arith, n, some))
 
-none-published : (configs : List Config) → length configs ≡ 0 → configs ≡ []
+none-published : (configs : List Entries) → length configs ≡ 0 → configs ≡ []
 none-published [] h = refl
 none-published (k ∷ ks) h = cc
 
@@ -210,7 +210,7 @@ closes-unpublished users script state old out h none b = record {
   s = b.s;
   w = b.w;
   done = subst (λ (z : List ℕ). IsReplay script b.w z) (sym (ap (λ (z : List ℕ). z ++ ends b.w) (h ∙ sym (append-nil (old.out ++ close_shown))) ∙ closes-as old.out [] (ends b.w)))
-      (ends-unpublished script b.s b.w old.out b.played ((b.mirrors).pubs ∙ none-published (old.gens).configs none));
+      (ends-unpublished script b.s b.w old.out b.played ((b.mirrors).pubs ∙ none-published (old.gens).configs none) (b.mirrors).marks);
   mirrors = b.mirrors;
 }
 
@@ -224,7 +224,7 @@ closes-published users script state old gens between out h is k some b =
       lines_out = old.out;
       out = see_shown (length (old.gens).configs);
       rounds = subst (λ (z : List ℕ × Bool). At script b.s new z old.out (see_shown (length (old.gens).configs))) (sym (round-begins (going new) new))
-          (subst (λ (z : List ℕ). InRounds script b.s new (going new) true old.out z) (see-as new (length (b.w).pubs) (length (old.gens).configs) (ap (λ (ks : List Config). length ks) (b.mirrors).pubs))
+          (subst (λ (z : List ℕ). InRounds script b.s new (going new) true old.out z) (see-as new (length (b.w).pubs) (length (old.gens).configs) (ap (λ (ks : List Entries). length ks) (b.mirrors).pubs))
           (rounds-begin script b.s b.w new old.out b.played (some-published (b.w).pubs (old.gens).configs (b.mirrors).pubs some)
           (see-step b.w old.gens (b.mirrors).pubs (b.mirrors).seen' (b.mirrors).below some)));
       written = k ∙ ap (λ (z : List ℕ). z ++ see_shown (length (old.gens).configs)) h;

@@ -3,12 +3,12 @@ use Rattle.std.proofs.Common.{ℕ, zero, suc, ◌≡◌, ◌+◌, ◌∙◌, sym
 use Rattle.std.specs.Prelude.{slice_get}
 use Rattle.socks_machine.specs.declared.world.TurnEvent.{TurnEvent}
 use Rattle.socks_machine.specs.Basis.{Basis}
-use Rattle.conf_model.specs.declared.user.User.{User}
+use Rattle.socks_grammar.specs.declared.user.User.{User}
 use Rattle.generation.specs.Published.{Generations}
 use Rattle.socks_machine.specs.Follows.{Failing, used_up, is_used}
 use Rattle.socks_machine.specs.Script.{Outside, Surroundings, change, change_at}
 use Rattle.replay_run.specs.declared.slot.Slot.{Slot}
-use Rattle.replay_script.specs.declared.state.Side.{Side}
+use Rattle.replay_script.specs.declared.state.AssociationState.{AssociationState}
 use Rattle.replay_script.specs.declared.state.State.{State}
 use Rattle.replay_run.specs.Mirrors.{AreSides, AreSlots, IsSlot, Matches}
 
@@ -82,7 +82,7 @@ same-some : {A : Type 0} (a b : A) → Some a ≡ Some b → a ≡ b
 same-some a b h = cc
 
 -- what the reader keeps of the associations is still what is outside
-sides-kept : (ev : TurnEvent) (failed : List Failing) (sides : List Side) (os : List Outside) (k : ℕ) (o : Outside) → slice_get os k ≡ Some o → AreSides sides os
+sides-kept : (ev : TurnEvent) (failed : List Failing) (sides : List AssociationState) (os : List Outside) (k : ℕ) (o : Outside) → slice_get os k ≡ Some o → AreSides sides os
     → AreSides sides (slice_set os k (after_turn ev failed o))
 sides-kept ev failed [] [] k o at h = tt
 sides-kept ev failed [] (x ∷ os) k o at h = absurd h
@@ -91,7 +91,7 @@ sides-kept ev failed (y ∷ ys) (x ∷ os) zero o at h = let e = same-some x o a
     (h.0 ∙ ap (λ (z : Outside). z.c) e, h.1 ∙ ap (λ (z : Outside). z.end_c) e, h.2 ∙ ap (λ (z : Outside). z.end_t) e, h.3)
 sides-kept ev failed (y ∷ ys) (x ∷ os) (suc k) o at h = (h.0, h.1, h.2, sides-kept ev failed ys os k o at h.3)
 
-sides-used : (s : Surroundings) (ev : TurnEvent) (failed : List Failing) (sides : List Side) (n : ℕ) → AreSides sides s.outsides → AreSides sides (change s n (after_turn ev failed)).outsides
+sides-used : (s : Surroundings) (ev : TurnEvent) (failed : List Failing) (sides : List AssociationState) (n : ℕ) → AreSides sides s.outsides → AreSides sides (change s n (after_turn ev failed)).outsides
 sides-used s ev failed sides zero h = h
 sides-used s ev failed sides (suc k) h = by (slice_get s.outsides k) refl
   where

@@ -1,7 +1,7 @@
 -- A record that is served is none of datagrams.
 use Rattle.std.proofs.Common.{◌≡◌, ap, refl, true, false, Some, None, List, [], ◌∷◌}
-use Rattle.conf_model.specs.declared.protocol.Command.{Command}
-use Rattle.conf_model.specs.declared.user.User.{User}
+use Rattle.socks_grammar.specs.declared.protocol.Command.{Command}
+use Rattle.socks_grammar.specs.declared.user.User.{User}
 use Rattle.socks_machine.specs.declared.record.Decision.{Decision}
 use Rattle.socks_machine.specs.declared.record.Record.{Record}
 use Rattle.socks_machine.specs.Phase.{is_udp}

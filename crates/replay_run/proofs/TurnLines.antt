@@ -1,7 +1,7 @@
 -- The line `turn` of a script.
 use Rattle.std.proofs.Common.{ℕ, suc, ◌≡◌, ◌<◌, ◌≤◌, ◌-◌, ◌∙◌, sym, ap, subst, refl, Bool, true, false, ◌&&◌, Option, Some, List, [], ◌∷◌, ◌++◌, length, map, arith}
 use Rattle.std.specs.Prelude.{slice_get}
-use Rattle.conf_model.specs.declared.user.User.{User}
+use Rattle.socks_grammar.specs.declared.user.User.{User}
 use Rattle.generation.specs.Published.{Generations}
 use Rattle.socks_machine.specs.declared.record.Record.{Record}
 use Rattle.socks_machine.specs.declared.script.ScriptLine.{ScriptLine}
@@ -11,7 +11,7 @@ use Rattle.socks_machine.specs.Basis.{Basis}
 use Rattle.socks_machine.specs.Follows.{used_up}
 use Rattle.socks_machine.specs.Script.{Outside, is_over, is_silent}
 use Rattle.socks_machine.specs.Step.{basis_of}
-use Rattle.replay_script.specs.declared.state.Side.{Side}
+use Rattle.replay_script.specs.declared.state.AssociationState.{AssociationState}
 use Rattle.replay_script.specs.declared.state.State.{State}
 use Rattle.replay_script.specs.Conditions.{allows}
 use Rattle.replay_run.specs.declared.slot.Slot.{Slot}
@@ -29,7 +29,7 @@ both true true h = (refl, refl)
 both true false h = cc
 both false b h = cc
 
-abbrev any_side : Side → Bool
+abbrev any_side : AssociationState → Bool
 any_side side = true
 
 place-of : (users : List User) (number : ℕ) (script lines : List ScriptLine) (state : State) (r : Replay) → allows state (ScriptLine.Turn 1 number) ≡ true

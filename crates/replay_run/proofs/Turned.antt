@@ -1,8 +1,8 @@
 -- The world behind a turn, and that the replay still holds what it is.
 use Rattle.std.proofs.Common.{ℕ, zero, suc, ◌≡◌, ◌≤◌, ◌+◌, ◌∙◌, sym, ap, subst, refl, Bool, true, false, Option, Some, None, is_some, if◌then◌else◌, List, [], ◌∷◌, length, map, arith, slice_set}
 use Rattle.std.specs.Prelude.{slice_get, unwrap_or}
-use Rattle.conf_model.specs.declared.config.Config.{Config}
-use Rattle.conf_model.specs.declared.user.User.{User}
+use Rattle.conf_types.specs.declared.entries.Entries.{Entries}
+use Rattle.socks_grammar.specs.declared.user.User.{User}
 use Rattle.generation.specs.Published.{Generations}
 use Rattle.socks_machine.specs.Basis.{Basis}
 use Rattle.net_ends.specs.declared.kinds.Kind.{Kind}
@@ -47,13 +47,13 @@ use Rattle.replay_run.proofs.Failures.{Tries, failed_in}
 use Rattle.replay_run.proofs.Slots.{after_turn, map-set-at, get-map-at, get-set-at, slot-at, slots-set, used-at}
 
 -- a turn is made in the generation that was seen, on the record of its number
-turn-steps : (w : World) (gens : Generations) (config : Config) (a : Assoc LinkInMemory) (slots : List Slot) (net net' : NetInMemory) (next : Next LinkInMemory) (stands' : List Line → List StopBy → Type 0) (k now : ℕ)
+turn-steps : (w : World) (gens : Generations) (config : Entries) (a : Assoc LinkInMemory) (slots : List Slot) (net net' : NetInMemory) (next : Next LinkInMemory) (stands' : List Line → List StopBy → Type 0) (k now : ℕ)
     → numbered w.pubs gens.seen ≡ Some config → w.seen ≡ seen_by_workers gens.seen → w.records ≡ map record_of slots → slice_get slots k ≡ Some (Slot.Going a net) → a.state.number ≡ suc k
     → (t : Turns told_of_link (λ (l : LinkInMemory). l.counts) stands' (context w.users w.pubs gens.seen config w.cap w.h w.marks) now (told_of_net net) (told_of_net net') a next)
     → step w (Event.Turn (event_of 1 a.state.number now t.acts (mark_of next))) ≡ Some (made w a.state.number t.result)
 turn-steps w gens config a slots net net' next stands' k now pubs seen records at number t =
     ap (λ (x : Option ℕ). x >>= λ g. numbered w.pubs g >>= λ c. numbered w.records a.state.number >>= λ r. turn (context_of w g c) ev r >>= λ m. Some (made w a.state.number m)) (ap (λ (z : List ℕ). slice_get z 1) seen)
-    ∙ (ap (λ (x : Option Config). x >>= λ c. numbered w.records a.state.number >>= λ r. turn (context_of w gens.seen c) ev r >>= λ m. Some (made w a.state.number m)) pubs
+    ∙ (ap (λ (x : Option Entries). x >>= λ c. numbered w.records a.state.number >>= λ r. turn (context_of w gens.seen c) ev r >>= λ m. Some (made w a.state.number m)) pubs
     ∙ (ap (λ (x : Option Record). x >>= λ r. turn (context_of w gens.seen config) ev r >>= λ m. Some (made w a.state.number m)) found
     ∙ ap (λ (x : Option TurnResult). x >>= λ m. Some (made w a.state.number m)) (t.lawful 1)))
   where
@@ -171,7 +171,7 @@ other-places (y ∷ ys) zero (suc j) x h = refl
 other-places (y ∷ ys) (suc k) zero x h = refl
 other-places (y ∷ ys) (suc k) (suc j) x h = other-places ys k j x (λ e. h (ap (λ (n : ℕ). suc n) e))
 
-pub turned : (users : List User) (s : Surroundings) (w : World) (gens : Generations) (config : Config) (slots : List Slot) (k : ℕ) (a : Assoc LinkInMemory) (net net' : NetInMemory) (next : Next LinkInMemory)
+pub turned : (users : List User) (s : Surroundings) (w : World) (gens : Generations) (config : Entries) (slots : List Slot) (k : ℕ) (a : Assoc LinkInMemory) (net net' : NetInMemory) (next : Next LinkInMemory)
     (stands stands' : List Line → List StopBy → Type 0) (cap now : ℕ)
     → Mirrors users stands cap now s w gens slots → numbered gens.configs gens.seen ≡ Some config → slice_get slots k ≡ Some (Slot.Going a net)
     → (t : Turns told_of_link (λ (l : LinkInMemory). l.counts) stands' (context w.users w.pubs gens.seen config w.cap w.h w.marks) now (told_of_net net) (told_of_net net') a next)
@@ -258,7 +258,7 @@ turned users s w gens config slots k a net net' next stands stands' cap now m is
     saw = ap (λ (z : List ℕ). slice_get z 1) m.seen'
 
     shown : numbered w.pubs gens.seen ≡ Some config
-    shown = ap (λ (z : List Config). numbered z gens.seen) m.pubs ∙ is
+    shown = ap (λ (z : List Entries). numbered z gens.seen) m.pubs ∙ is
 
     stood' : slice_get w.records k ≡ Some a.state
     stood' = ap (λ (z : List Record). slice_get z k) m.records ∙ get-map-at record_of slots k (Slot.Going a net) at

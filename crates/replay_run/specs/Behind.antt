@@ -1,6 +1,6 @@
 -- What a replay holds between two lines of its script, and behind the last.
 use Rattle.std.specs.Prelude.{ℕ, suc, ◌≡◌, Bool, true, false, Some, List, [], ◌∷◌, ◌++◌, drop}
-use Rattle.conf_model.specs.declared.user.User.{User}
+use Rattle.socks_grammar.specs.declared.user.User.{User}
 use Rattle.session_desk.specs.Standings.{StandsFor}
 use Rattle.socks_machine.specs.declared.script.ScriptLine.{ScriptLine}
 use Rattle.socks_machine.specs.declared.world.World.{World}

@@ -3,10 +3,9 @@ use Rattle.std.specs.List.{list_any}
 use Rattle.std.specs.Prelude.{ℕ, zero, suc, ◌≡◌, ◌<◌, ◌≤◌, ◌+◌, Bool, true, false, Option, Some, None, List, [], ◌∷◌, length, map, All}
 use Rattle.addr_pattern.specs.declared.addr.Addr.{Addr}
 use Rattle.addr_pattern.specs.declared.endpoint.Endpoint.{Endpoint}
-use Rattle.conf_model.specs.declared.config.Config.{Config}
-use Rattle.conf_model.specs.declared.user.User.{User}
-use Rattle.conf_model.specs.Plain.{IsPlain}
-use Rattle.rule_list.specs.Numbers.{FitsNumbers}
+use Rattle.conf_types.specs.declared.entries.Entries.{Entries}
+use Rattle.socks_grammar.specs.declared.user.User.{User}
+use Rattle.conf_types.specs.Plain.{IsPlain}
 use Rattle.generation.specs.Published.{Generations}
 use Rattle.net_ends.specs.declared.kinds.Kinds.{Kinds}
 use Rattle.net_ends.specs.InMemory.{LinkInMemory, NetInMemory, told_of_link}
@@ -28,7 +27,7 @@ use Rattle.assoc_core.specs.declared.assoc.Assoc.{Assoc}
 use Rattle.assoc_core.specs.Stands.{Stands}
 use Rattle.assoc_core.specs.Turns.{looked_as, outer_of}
 use Rattle.replay_run.specs.declared.slot.Slot.{Slot}
-use Rattle.replay_script.specs.declared.state.Side.{Side}
+use Rattle.replay_script.specs.declared.state.AssociationState.{AssociationState}
 use Rattle.replay_script.specs.declared.state.State.{State}
 
 -- ---- one association
@@ -123,14 +122,10 @@ pub record Mirrors (users : List User) (stands : List Line → List StopBy → T
 
 -- ---- the conditions of the script
 
-abbrev pub AreSides : List Side → List Outside → Type 0
+abbrev pub AreSides : List AssociationState → List Outside → Type 0
 AreSides [] [] = Unit {0}
 AreSides (side ∷ sides) (o ∷ os) = (side.c ≡ o.c) × (side.end_c ≡ o.end_c) × (side.end_t ≡ o.end_t) × AreSides sides os
 AreSides _ _ = ⊥
-
--- a configuration that was published
-abbrev pub IsConfigured : Config → Type 0
-IsConfigured config = IsPlain config × FitsNumbers config
 
 -- the reader takes these for the users as soon as an association is open
 abbrev pub HasUsers : List User → State → Type 0
@@ -143,9 +138,9 @@ pub record Matches (users : List User) (state : State) (s : Surroundings) (gens 
   pub seen' : state.seen ≡ true → 0 < gens.seen
   pub moment : state.moment ≡ s.now
   pub sides : AreSides state.sides s.outsides
-  pub plain : All IsConfigured gens.configs
+  pub plain : All IsPlain gens.configs
 
 -- a worker has seen one of the configurations that were published
 pub record HasSeen (gens : Generations) : Type 0 where
   pub seen : 0 < gens.seen
-  pub plain : All IsConfigured gens.configs
+  pub plain : All IsPlain gens.configs

@@ -1,5 +1,5 @@
 -- How far a script has been played.
-use Rattle.std.specs.Prelude.{ℕ, ◌≡◌, Bool, true, not, Some, List, ◌++◌}
+use Rattle.std.specs.Prelude.{ℕ, ◌≡◌, Bool, true, ◌&&◌, not, Some, List, ◌++◌}
 use Rattle.std.specs.List.{list_all}
 use Rattle.socks_machine.specs.declared.script.ScriptLine.{ScriptLine}
 use Rattle.socks_machine.specs.declared.world.Event.{Event}
@@ -15,9 +15,9 @@ use Rattle.socks_machine.specs.Transcript.{traced}
 abbrev pub Plays : Surroundings → World → List ScriptLine → List Event → Surroundings → World → Type 0
 Plays s0 w0 lines events s w = (rest : List ScriptLine) (more rounds : List Event) → Follows s w rest more rounds → Follows s0 w0 (lines ++ rest) (events ++ more) rounds
 
--- an event that is no turn which goes on
+-- an event that is no turn which goes on, or for which memory was short
 abbrev pub is_over : Event → Bool
-is_over (Event.Turn ev) = not (mark_eq ev.next NextMark.Going)
+is_over (Event.Turn ev) = not (mark_eq ev.next NextMark.Going) && not ev.memory
 is_over _ = true
 
 -- events that end in this world, with their lines of the transcript

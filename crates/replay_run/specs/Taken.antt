@@ -1,8 +1,8 @@
 -- A turn that was taken, with its line of the transcript.
 use Rattle.std.specs.Prelude.{ℕ, ◌≡◌, ◌+◌, Bool, false, None, Some, List, [], ◌++◌, length}
-use Rattle.conf_model.specs.declared.config.Config.{Config}
-use Rattle.conf_model.specs.declared.user.User.{User}
-use Rattle.conf_model.specs.Plain.{IsPlain}
+use Rattle.conf_types.specs.declared.entries.Entries.{Entries}
+use Rattle.socks_grammar.specs.declared.user.User.{User}
+use Rattle.conf_types.specs.Plain.{IsPlain}
 use Rattle.net_ends.specs.InMemory.{LinkInMemory, NetInMemory, told_of_link, told_of_net}
 use Rattle.rule_list.specs.Rules.{numbered}
 use Rattle.session_desk.specs.Books.{Book}
@@ -38,10 +38,10 @@ slot_of (Next.Again a) net = Slot.Going a net
 slot_of (Next.Done e) net = Slot.Over e
 
 -- a turn that was made over these users in this generation at this moment, from whatever the desk stood for
-pub record MakesTurn (users : List User) (generation : ℕ) (config : Config) (now : ℕ) (desk desk' : Book) (a : Assoc LinkInMemory) (net : NetInMemory) (next : Next LinkInMemory) (net' : NetInMemory) : Type 0 where
+pub record MakesTurn (users : List User) (generation : ℕ) (config : Entries) (now : ℕ) (desk desk' : Book) (a : Assoc LinkInMemory) (net : NetInMemory) (next : Next LinkInMemory) (net' : NetInMemory) : Type 0 where
   pub cap : desk'.cap ≡ desk.cap
   pub mark : desk'.stopped ≡ None
-  pub turns : (pubs : List Config) (h : List Line) (marks : List StopBy) → StandsFor desk h marks → Stands told_of_link (socks users pubs) a → TellsServed users (told_of_link a.client)
+  pub turns : (pubs : List Entries) (h : List Line) (marks : List StopBy) → StandsFor desk h marks → Stands told_of_link (socks users pubs) a → TellsServed users (told_of_link a.client)
       → numbered pubs generation ≡ Some config → IsPlain config
       → Turns told_of_link (λ (l : LinkInMemory). l.counts) (StandsFor desk') (context users pubs generation config desk.cap h marks) now (told_of_net net) (told_of_net net') a next
 

@@ -1,5 +1,5 @@
 ghost use Rattle.std.specs.Prelude.{◌≡◌, IfOk, List as Items};
-ghost use Rattle.conf_model.specs.declared.user.User.{User as SomeUser};
+ghost use Rattle.socks_grammar.specs.declared.user.User.{User as SomeUser};
 ghost use Rattle.net_ends.specs.Plans.{planned};
 ghost use Rattle.socks_machine.specs.declared.script.ScriptLine.TheVariants.{Client, Target, ClientEnd, TargetEnd, Room, Fault, Lookup as LookupLine, Dial};
 ghost use Rattle.replay_script.specs.Conditions.{IsServedLookup, IsServedOutcome};

@@ -4,7 +4,7 @@ ghost use Rattle.replay_run.specs.Ends.{AreUngrammed, all_ends};
 
 use crate::lines::show_ends;
 use crate::slot::Slot;
-use conf_text::Text;
+use lists::Text;
 use std::alloc::{AllocError, Global};
 
 /// What became of each association.

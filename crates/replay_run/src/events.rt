@@ -1,5 +1,5 @@
 ghost use Rattle.std.specs.Prelude.{◌≡◌, ◌<◌, IfOk, IfSome, List as Items, length};
-ghost use Rattle.conf_model.specs.declared.user.User.{User as SomeUser};
+ghost use Rattle.socks_grammar.specs.declared.user.User.{User as SomeUser};
 ghost use Rattle.net_ends.specs.InMemory.{fresh_link, fresh_net};
 ghost use Rattle.socks_machine.specs.declared.script.ScriptLine.TheVariants.{Publish, See, Open, Now};
 ghost use Rattle.socks_machine.specs.Step.{fresh};
@@ -11,7 +11,7 @@ use crate::slot::Slot;
 use crate::state::Replay;
 use addr_pattern::Endpoint;
 use assoc_core::Assoc;
-use conf_model::Config;
+use conf_types::Config;
 use generation::Gens;
 use net_ends::{MemLink, MemNet};
 use std::alloc::{AllocError, Global};

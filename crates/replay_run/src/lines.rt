@@ -7,7 +7,7 @@ ghost use Rattle.socks_machine.specs.Phase.{is_udp};
 ghost use Rattle.replay_run.specs.Shown.{turn_shown, publish_shown, see_shown, open_shown, close_shown, ends_shown};
 
 use crate::totals::Totals;
-use conf_text::Text;
+use lists::Text;
 use socks_machine::{NextMark, Record};
 use std::alloc::{AllocError, Global};
 use transcript_text as text;

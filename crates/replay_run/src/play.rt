@@ -8,8 +8,8 @@ ghost use Rattle.replay_run.specs.Behind.{GoesBehind, IsBehind, IsDue};
 
 use crate::ends::write_ends;
 use crate::state::Replay;
-use conf_text::{List, Text};
 use generation::ListGens;
+use lists::{List, Text};
 use session_desk::Desk;
 use socks_machine::ScriptLine;
 use std::alloc::{AllocError, Global};

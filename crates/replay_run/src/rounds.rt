@@ -2,7 +2,8 @@ ghost use Rattle.std.specs.Prelude.{◌≡◌, ◌≤◌, IfOk, List as Items, t
 ghost use Rattle.socks_machine.specs.declared.script.ScriptLine.{ScriptLine};
 ghost use Rattle.replay_script.specs.declared.state.State.{State};
 ghost use Rattle.replay_run.specs.Behind.{IsBehind, IsInRound, IsPlayedOut, OnRound};
-ghost use Rattle.replay_run.specs.Mirrors.{HasSeen, IsConfigured};
+ghost use Rattle.replay_run.specs.Mirrors.{HasSeen};
+ghost use Rattle.conf_types.specs.Plain.{IsPlain};
 
 use crate::lines::{show_close, show_see};
 use crate::state::Replay;
@@ -42,7 +43,7 @@ impl Replay {
 
     /// The closing rounds: worker 1 sees what was published last.
     pub fn close(&mut self, alloc: Global, users: &Users) -> Result<(), AllocError>
-        requires { All IsConfigured self.old.gens.configs }
+        requires { All IsPlain self.old.gens.configs }
         ensures { IfOk result (λ _. (script : Items ScriptLine) (state : State) → IsBehind users.now script script state self.old → IsPlayedOut users.now script self.new) }
     {
         show_close(&mut self.out)?;

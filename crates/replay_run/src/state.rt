@@ -1,6 +1,6 @@
 use crate::slot::Slot;
-use conf_text::{List, Text};
 use generation::ListGens;
+use lists::{List, Text};
 use session_desk::Desk;
 
 /// A replay between two lines: the desk, what was published and seen by the one worker, the moment, the associations in their

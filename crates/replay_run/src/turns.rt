@@ -1,6 +1,5 @@
 ghost use Rattle.std.specs.Prelude.{◌≡◌, ◌&&◌, ◌==◌, IfOk};
 ghost use Rattle.std.specs.Arc.{arc_value};
-ghost use Rattle.rule_list.specs.Numbers.{FitsNumbers};
 ghost use Rattle.socks_machine.specs.Equal.{mark_eq};
 ghost use Rattle.replay_run.specs.Taken.{MakesTurn, WritesTurn, mark_of_next, left_record, slot_of};
 
@@ -8,8 +7,8 @@ use crate::lines::show_turn;
 use crate::slot::Slot;
 use crate::totals::Totals;
 use assoc_core::{Assoc, Next, turn};
-use conf_text::Text;
 use generation::Snap;
+use lists::Text;
 use net_ends::{MemLink, MemNet};
 use session_desk::Desk;
 use socks_machine::{NextMark, Record};
@@ -74,7 +73,6 @@ pub fn make_turn(
     net: &mut MemNet,
     now: u64,
 ) -> Result<Next<MemLink>, AllocError>
-    requires { FitsNumbers (arc_value snap.now.config) }
     ensures { IfOk result (λ next. MakesTurn users.now snap.now.number (arc_value snap.now.config) now desk.old desk.new assoc net.old next net.new) }
 {
     let next = turn(

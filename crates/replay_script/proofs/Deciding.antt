@@ -1,7 +1,7 @@
 -- A text has one reading.
 use Rattle.std.proofs.Common.{◌≡◌, ◌≢◌, ◌≤◌, ◌+◌, ℕ, List, [], ◌∷◌, length, sym, subst, ap, ◌∙◌, refl, arith}
 use Rattle.socks_machine.specs.declared.script.ScriptLine.{ScriptLine}
-use Rattle.replay_script.specs.declared.entry.Entry.{Entry}
+use Rattle.replay_script.specs.declared.entry.TextLine.{TextLine}
 use Rattle.replay_script.specs.declared.state.State.{State}
 use Rattle.replay_script.specs.declared.fault.ScriptKind.{ScriptKind}
 use Rattle.replay_script.specs.Conditions.{start}
@@ -12,9 +12,9 @@ use Rattle.replay_script.proofs.Reading.{one_first}
 
 -- nothing more is served
 unfoldable NoMore : State → List ℕ → Type 0
-NoMore s text = (l : Entry) (lines : ℕ) (behind : List ℕ) → Serves s text l lines behind → ⊥
+NoMore s text = (l : TextLine) (lines : ℕ) (behind : List ℕ) → Serves s text l lines behind → ⊥
 
-same_reads : (s : State) (text : List ℕ) (at : ℕ) (ls ms : List Entry) (rest other : List ℕ) (now last : State) (n k : ℕ) →
+same_reads : (s : State) (text : List ℕ) (at : ℕ) (ls ms : List TextLine) (rest other : List ℕ) (now last : State) (n k : ℕ) →
     Reads s text at ls rest now n → NoMore now rest → Reads s text at ms other last k → NoMore last other →
     (ls ≡ ms) × (rest ≡ other) × (n ≡ k) × (now ≡ last)
 unfolding NoMore
@@ -26,7 +26,7 @@ same_reads s text at (l ∷ ls) [] rest other now last n k h a j b =
 same_reads s text at (l ∷ ls) (m ∷ ms) rest other now last n k h a j b =
     let q = one_begins text l m h.0 j.0 h.1 j.1 h.2.begins j.2.begins in
     let moved : Reads (behind_entry s l) h.1 (at + h.0) ms other last k =
-    subst (λ (z : Entry). Reads (behind_entry s z) h.1 (at + h.0) ms other last k) (sym q.0)
+    subst (λ (z : TextLine). Reads (behind_entry s z) h.1 (at + h.0) ms other last k) (sym q.0)
     (subst (λ (z : ℕ). Reads (behind_entry s m) h.1 (at + z) ms other last k) (sym q.1)
     (subst (λ (z : List ℕ). Reads (behind_entry s m) z (at + j.0) ms other last k) (sym q.2) j.3)) in
     let r = same_reads (behind_entry s l) h.1 (at + h.0) ls ms rest other now last n k h.3 a moved b in

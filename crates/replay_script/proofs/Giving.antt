@@ -1,6 +1,6 @@
 -- The lines that give the users.
 use Rattle.std.proofs.Common.{◌≡◌, ℕ, true, List, Result, Ok, Err, sym, ap, ◌∙◌}
-use Rattle.conf_model.specs.declared.user.User.{User}
+use Rattle.socks_grammar.specs.declared.user.User.{User}
 use Rattle.user_login.specs.declared.fault.UsersFault.{UsersFault}
 use Rattle.user_login.specs.UsersFile.{users_of, are_users}
 use Rattle.user_login.proofs.Limits.{users-keep}

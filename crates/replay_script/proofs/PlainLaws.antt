@@ -2,12 +2,12 @@
 use Rattle.std.proofs.Common.{◌≡◌, ℕ, Bool, true, false, ◌&&◌, List, [], ◌∷◌, Option, Some, None, is_none, refl, sym, ap, ◌∙◌, true≢false}
 use Rattle.std.specs.List.{list_all, All}
 use Rattle.std.proofs.lemmas.List.Elements.{All-nil, All-cons, All-head, All-tail}
-use Rattle.conf_model.specs.declared.config.Config.{Config}
-use Rattle.conf_model.specs.declared.route.Route.{Route}
-use Rattle.conf_model.specs.declared.route.Via.{Via}
-use Rattle.conf_model.specs.declared.rule.ClientRule.{ClientRule}
-use Rattle.conf_model.specs.declared.rule.SocksRule.{SocksRule}
-use Rattle.conf_model.specs.Plain.{IsPlain}
+use Rattle.conf_types.specs.declared.entries.Entries.{Entries}
+use Rattle.conf_types.specs.declared.route.Route.{Route}
+use Rattle.conf_types.specs.declared.route.Via.{Via}
+use Rattle.conf_types.specs.declared.rule.ClientRule.{ClientRule}
+use Rattle.conf_types.specs.declared.rule.SocksRule.{SocksRule}
+use Rattle.conf_types.specs.Plain.{IsPlain}
 use Rattle.replay_script.specs.PlainTests.{is_direct, are_direct, are_free_clients, are_free_requests}
 
 both : (a b : Bool) → (a && b) ≡ true → (a ≡ true) × (b ≡ true)
@@ -34,18 +34,18 @@ none_is : (max : Option ℕ) → is_none max ≡ true → max ≡ None
 none_is None h = refl
 none_is (Some n) h = absurd (true≢false (sym h))
 
-pub plain_by_tests : (k : Config) → are_direct k.routes ≡ true → are_free_clients k.client ≡ true → are_free_requests k.socks ≡ true → IsPlain k
+pub plain_by_tests : (k : Entries) → are_direct k.routes ≡ true → are_free_clients k.client ≡ true → are_free_requests k.socks ≡ true → IsPlain k
 plain_by_tests k routes client socks = record {
   routes = all_true (λ (r : Route). is_direct r.via) (λ (r : Route). r.via ≡ Via.Direct) (λ r. direct_is r.via) k.routes routes;
   client = all_true (λ (r : ClientRule). is_none r.max) (λ (r : ClientRule). r.max ≡ None) (λ r. none_is r.max) k.client client;
   socks = all_true (λ (r : SocksRule). is_none r.max) (λ (r : SocksRule). r.max ≡ None) (λ r. none_is r.max) k.socks socks;
 }
 
-pub plain_direct : (k : Config) → IsPlain k → are_direct k.routes ≡ true
+pub plain_direct : (k : Entries) → IsPlain k → are_direct k.routes ≡ true
 plain_direct k h = all_pass (λ (r : Route). is_direct r.via) (λ (r : Route). r.via ≡ Via.Direct) (λ r e. ap is_direct e) k.routes h.routes
 
-pub plain_clients : (k : Config) → IsPlain k → are_free_clients k.client ≡ true
+pub plain_clients : (k : Entries) → IsPlain k → are_free_clients k.client ≡ true
 plain_clients k h = all_pass (λ (r : ClientRule). is_none r.max) (λ (r : ClientRule). r.max ≡ None) (λ r e. ap is_none e) k.client h.client
 
-pub plain_requests : (k : Config) → IsPlain k → are_free_requests k.socks ≡ true
+pub plain_requests : (k : Entries) → IsPlain k → are_free_requests k.socks ≡ true
 plain_requests k h = all_pass (λ (r : SocksRule). is_none r.max) (λ (r : SocksRule). r.max ≡ None) (λ r e. ap is_none e) k.socks h.socks

@@ -2,34 +2,32 @@
 use Rattle.std.proofs.Common.{◌≡◌, ◌≢◌, ℕ, List, Result, Ok, Err, ◌⊎◌, inl, inr, ap, ◌∙◌, sym, subst, arith}
 use Rattle.conf_text.specs.declared.fault.TextFault.{TextFault}
 use Rattle.conf_text.proofs.Deciding.{readings_agree, text_faultless, one_fault as one_text_fault}
-use Rattle.conf_model.specs.declared.config.Config.{Config}
+use Rattle.conf_types.specs.declared.entries.Entries.{Entries}
 use Rattle.conf_model.specs.declared.fault.ConfFault.{ConfFault}
 use Rattle.conf_model.specs.declared.fault.ConfKind.{ConfKind}
-use Rattle.conf_model.specs.Plain.{IsPlain}
+use Rattle.conf_types.specs.Plain.{IsPlain}
 use Rattle.conf_model.specs.Reads.{HasFault, IsConfigText, IsTextFault, Says, line_of}
 use Rattle.conf_model.specs.Settings.{config_of}
-use Rattle.conf_model.proofs.Kept.KeptStatements.{read-kept}
-use Rattle.rule_list.specs.Numbers.{FitsNumbers}
 use Rattle.replay_script.specs.Counted.{Counts}
 use Rattle.replay_script.specs.Conf.{Publishes, RefusesConfig, Unpublished, publish_word}
 use Rattle.replay_script.proofs.Counting.{one_counts}
 
 -- ---- what a counted text says
 
-one_config : (text : List ℕ) (c d : Config) → IsConfigText text c → IsConfigText text d → c ≡ d
+one_config : (text : List ℕ) (c d : Entries) → IsConfigText text c → IsConfigText text d → c ≡ d
 one_config text c d h k =
     let s = readings_agree text h.statements k.statements h.are k.are in
-    let e : ◌≡◌ {A = Result Config ConfFault} (Ok c) (Ok d) = sym h.say ∙ (ap config_of s ∙ k.say) in
+    let e : ◌≡◌ {A = Result Entries ConfFault} (Ok c) (Ok d) = sym h.say ∙ (ap config_of s ∙ k.say) in
     cc
 
-config_faultless : (text : List ℕ) (c : Config) (f : ConfFault) → f.kind ≢ ConfKind.Memory → IsConfigText text c → HasFault text f → ⊥
+config_faultless : (text : List ℕ) (c : Entries) (f : ConfFault) → f.kind ≢ ConfKind.Memory → IsConfigText text c → HasFault text f → ⊥
 config_faultless text c f known h k = at h (k known)
   where
     at : IsConfigText text c → IsTextFault text f ⊎ Says text (Err f) → ⊥
     at h (inl a) = a.known (text_faultless text h.statements a.first h.are a.faulty)
     at h (inr b) =
         let s = readings_agree text h.statements b.statements h.are b.are in
-        let e : ◌≡◌ {A = Result Config ConfFault} (Ok c) (Err f) = sym h.say ∙ (ap config_of s ∙ b.say) in
+        let e : ◌≡◌ {A = Result Entries ConfFault} (Ok c) (Err f) = sym h.say ∙ (ap config_of s ∙ b.say) in
         cc
 
 fault_is : (f g : ConfFault) → f.line ≡ g.line → f.kind ≡ g.kind → f ≡ g
@@ -48,17 +46,17 @@ one_conf_fault text f g known other h k = at (h known) (k other)
     at (inr a) (inl b) = absurd (b.known (text_faultless text a.statements b.first a.are b.faulty))
     at (inr a) (inr b) =
         let s = readings_agree text a.statements b.statements a.are b.are in
-        let e : ◌≡◌ {A = Result Config ConfFault} (Err f) (Err g) = sym a.say ∙ (ap config_of s ∙ b.say) in
+        let e : ◌≡◌ {A = Result Entries ConfFault} (Err f) (Err g) = sym a.say ∙ (ap config_of s ∙ b.say) in
         cc
 
 -- ---- what is published, or refused
 
-pub one_publish : (text : List ℕ) (c d : Config) (n m : ℕ) (x y : List ℕ) → Publishes text c n x → Publishes text d m y → (c ≡ d) × (n ≡ m) × (x ≡ y)
+pub one_publish : (text : List ℕ) (c d : Entries) (n m : ℕ) (x y : List ℕ) → Publishes text c n x → Publishes text d m y → (c ≡ d) × (n ≡ m) × (x ≡ y)
 one_publish text c d n m x y h k =
     let q = one_counts publish_word text h.counted k.counted n m x y h.publish k.publish in
     (one_config h.counted c d h.config' (subst (λ (z : List ℕ). IsConfigText z d) (sym q.0) k.config'), q.1, q.2)
 
-pub published_unrefused : (text : List ℕ) (c : Config) (n : ℕ) (x : List ℕ) (f : ConfFault) → Publishes text c n x → RefusesConfig text f → ⊥
+pub published_unrefused : (text : List ℕ) (c : Entries) (n : ℕ) (x : List ℕ) (f : ConfFault) → Publishes text c n x → RefusesConfig text f → ⊥
 published_unrefused text c n x f h k =
     let q = one_counts publish_word text h.counted k.counted n k.lines x k.behind h.publish k.publish in
     config_faultless h.counted c f k.known h.config' (subst (λ (z : List ℕ). HasFault z f) (sym q.0) k.faulty)
@@ -69,7 +67,7 @@ one_config_refusal text f g h k =
     one_conf_fault h.counted f g h.known k.known h.faulty (subst (λ (z : List ℕ). HasFault z g) (sym q.0) k.faulty)
 
 -- a configuration that isn't served is neither published nor refused
-pub unserved : (text counted : List ℕ) (config : Config) (lines : ℕ) (behind : List ℕ) → Counts publish_word text counted lines behind → IsConfigText counted config →
+pub unserved : (text counted : List ℕ) (config : Entries) (lines : ℕ) (behind : List ℕ) → Counts publish_word text counted lines behind → IsConfigText counted config →
     (IsPlain config → ⊥) → Unpublished text
 unserved text counted config lines behind h k unplain = record {
   serves = λ other n x p.
@@ -80,12 +78,3 @@ unserved text counted config lines behind h k unplain = record {
       let q = (one_counts publish_word text counted r.counted lines r.lines behind r.behind h r.publish).0 in
       config_faultless r.counted config fault r.known (subst (λ (z : List ℕ). IsConfigText z config) q k) r.faulty;
 }
-
--- the numbers of its rules and routes fit
-pub published_fits : (text : List ℕ) (config : Config) (lines : ℕ) (behind : List ℕ) → Publishes text config lines behind → IsPlain config × FitsNumbers config
-published_fits text config lines behind h =
-    let k = read-kept h.counted config h.config' in
-    let a = k.few_client in
-    let b = k.few_socks in
-    let c = k.few_routes in
-    (h.plain, record { client = omega (arith, a); socks = omega (arith, b); routes = omega (arith, c) })

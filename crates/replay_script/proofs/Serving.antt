@@ -4,14 +4,13 @@ use Rattle.socks_machine.specs.declared.world.Object.{Object}
 use Rattle.socks_machine.specs.declared.world.Outer.{Outer}
 use Rattle.socks_machine.specs.declared.script.CallKind.{CallKind}
 use Rattle.socks_machine.specs.declared.script.ScriptLine.{ScriptLine}
-use Rattle.replay_script.specs.declared.entry.Entry.{Entry}
+use Rattle.replay_script.specs.declared.entry.TextLine.{TextLine}
 use Rattle.replay_script.specs.declared.fault.ScriptFault.{ScriptFault}
 use Rattle.replay_script.specs.declared.fault.ScriptKind.{ScriptKind}
 use Rattle.replay_script.specs.declared.state.State.{State}
 use Rattle.replay_script.specs.Conditions.{start, after, IsServedOutcome, IsServedLookup, IsServedForm, IsServedRoom, IsServedFault, IsServedFrom, IsServed}
 use Rattle.replay_script.specs.Forms.{IsBound, IsCall, IsOutcome, IsFound, Spells}
 use Rattle.replay_script.specs.Script.{SpellsEntry, Begins, IsServedEntry, Refuses, Reads, AreLines, IsRefusedAt, IsScript, OnLines, OnLinesFault, lines_of}
-use Rattle.replay_script.proofs.Publishing.{published_fits}
 use Rattle.replay_script.proofs.Giving.{given_fits}
 use Rattle.replay_script.proofs.Steps.{IsSoFar}
 
@@ -54,21 +53,21 @@ spelled_served text (ScriptLine.Now n) h = tt
 spelled_served text (ScriptLine.Turn w n) h = h.0
 spelled_served text _ h = absurd h
 
-spelled_form : (text : List ℕ) (entry : Entry) → SpellsEntry text entry → IsServedEntry entry
-spelled_form text Entry.Skipped h = tt
-spelled_form text (Entry.Served l) h = spelled_served text l h
+spelled_form : (text : List ℕ) (entry : TextLine) → SpellsEntry text entry → IsServedEntry entry
+spelled_form text TextLine.Skipped h = tt
+spelled_form text (TextLine.Served l) h = spelled_served text l h
 
-pub begins_form : (text : List ℕ) (entry : Entry) (lines : ℕ) (behind : List ℕ) → Begins text entry lines behind → IsServedEntry entry
+pub begins_form : (text : List ℕ) (entry : TextLine) (lines : ℕ) (behind : List ℕ) → Begins text entry lines behind → IsServedEntry entry
 begins_form text entry lines behind (inl h) = spelled_form h.0 entry h.2
-begins_form text entry lines behind (inr (inl h)) = subst IsServedEntry (sym h.2) (published_fits text h.0 lines behind h.1)
+begins_form text entry lines behind (inr (inl h)) = subst IsServedEntry (sym h.2) h.1.plain
 begins_form text entry lines behind (inr (inr h)) = subst IsServedEntry (sym h.2) (given_fits text h.0 lines behind h.1)
 
-reads_served : (s : State) (text : List ℕ) (at : ℕ) (entries : List Entry) (rest : List ℕ) (now : State) (number : ℕ) →
+reads_served : (s : State) (text : List ℕ) (at : ℕ) (entries : List TextLine) (rest : List ℕ) (now : State) (number : ℕ) →
     Reads s text at entries rest now number → IsServedFrom s (lines_of entries)
 reads_served s text at [] rest now number h = tt
-reads_served s text at (Entry.Skipped ∷ entries) rest now number h = reads_served s h.1 (at + h.0) entries rest now number h.3
-reads_served s text at (Entry.Served l ∷ entries) rest now number h =
-    (begins_form text (Entry.Served l) h.0 h.1 h.2.begins, h.2.allowed, reads_served (after s l) h.1 (at + h.0) entries rest now number h.3)
+reads_served s text at (TextLine.Skipped ∷ entries) rest now number h = reads_served s h.1 (at + h.0) entries rest now number h.3
+reads_served s text at (TextLine.Served l ∷ entries) rest now number h =
+    (begins_form text (TextLine.Served l) h.0 h.1 h.2.begins, h.2.allowed, reads_served (after s l) h.1 (at + h.0) entries rest now number h.3)
 
 lines_served : (text : List ℕ) (ls : List ScriptLine) → AreLines text ls → IsServed ls
 lines_served text ls h = subst IsServed (sym h.shown) (reads_served start text 2 h.entries [] h.last h.number h.reading)

@@ -1,32 +1,31 @@
 -- Under which conditions a script's lines are served: one worker, and clients whose input is served.
 use Rattle.std.specs.Prelude.{◌≡◌, ◌≤◌, ◌+◌, ◌-◌, ℕ, zero, suc, Bool, true, false, not, ◌&&◌, ◌==◌, nat_le, List, [], ◌∷◌, ◌++◌, Option, Some, None, length, slice_get, slice_set}
-use Rattle.conf_model.specs.declared.user.User.{User}
-use Rattle.conf_model.specs.Plain.{IsPlain}
-use Rattle.rule_list.specs.Numbers.{FitsNumbers}
+use Rattle.socks_grammar.specs.declared.user.User.{User}
+use Rattle.conf_types.specs.Plain.{IsPlain}
 use Rattle.socks_machine.specs.declared.world.Object.{Object}
 use Rattle.socks_machine.specs.declared.world.Outer.{Outer}
 use Rattle.socks_machine.specs.declared.script.ScriptLine.{ScriptLine}
 use Rattle.socks_machine.specs.Inputs.{is_served_input}
 use Rattle.user_login.specs.UsersFile.{are_users}
 use Rattle.replay_script.specs.Forms.{most_at_once}
-use Rattle.replay_script.specs.declared.state.Side.{Side}
+use Rattle.replay_script.specs.declared.state.AssociationState.{AssociationState}
 use Rattle.replay_script.specs.declared.state.State.{State}
 
 abbrev pub start : State
 start = record { users = []; given = false; published = false; seen = false; moment = 0; sides = [] }
 
-abbrev pub fresh_side : Side
+abbrev pub fresh_side : AssociationState
 fresh_side = record { c = []; end_c = false; end_t = false; looked = false; dialled = false }
 
 -- ---- the conditions of order
 
 -- the test of an association that is open
-abbrev pub on_side : Option Side → (Side → Bool) → Bool
+abbrev pub on_side : Option AssociationState → (AssociationState → Bool) → Bool
 on_side None test = false
 on_side (Some side) test = test side
 
 -- associations are numbered from 1
-abbrev pub side_of : State → ℕ → Option Side
+abbrev pub side_of : State → ℕ → Option AssociationState
 side_of s zero = None
 side_of s (suc k) = slice_get s.sides k
 
@@ -34,7 +33,7 @@ side_of s (suc k) = slice_get s.sides k
 abbrev pub may_give : State → Bool
 may_give s = not s.given && (not s.published && length s.sides == 0)
 
-abbrev pub may_send : List User → List ℕ → Side → Bool
+abbrev pub may_send : List User → List ℕ → AssociationState → Bool
 may_send users bytes side = not side.end_c && is_served_input users (side.c ++ bytes)
 
 -- whether a line keeps its condition
@@ -57,11 +56,11 @@ allows s _ = false
 
 -- ---- what the lines say so far
 
-abbrev pub with_side : State → ℕ → (Side → Side) → Option Side → State
+abbrev pub with_side : State → ℕ → (AssociationState → AssociationState) → Option AssociationState → State
 with_side s a change None = s
 with_side s a change (Some side) = record s { sides = slice_set s.sides (a - 1) (change side) }
 
-abbrev pub change_side : State → ℕ → (Side → Side) → State
+abbrev pub change_side : State → ℕ → (AssociationState → AssociationState) → State
 change_side s a change = with_side s a change (side_of s a)
 
 -- what the lines say behind a line
@@ -108,7 +107,7 @@ IsServedFault _ = ⊥
 -- what is served of a line, whatever stands before it
 abbrev pub IsServedForm : ScriptLine → Type 0
 IsServedForm (ScriptLine.UsersAre users) = are_users users ≡ true
-IsServedForm (ScriptLine.Publish k) = IsPlain k × FitsNumbers k
+IsServedForm (ScriptLine.Publish k) = IsPlain k
 IsServedForm (ScriptLine.See w) = w ≡ 1
 IsServedForm (ScriptLine.Open w a peer local) = w ≡ 1
 IsServedForm (ScriptLine.Client a bytes) = Unit {0}

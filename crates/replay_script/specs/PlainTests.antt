@@ -1,10 +1,10 @@
 -- Which configurations are served, as a test.
 use Rattle.std.specs.Prelude.{Bool, true, false, List, is_none}
 use Rattle.std.specs.List.{list_all}
-use Rattle.conf_model.specs.declared.route.Route.{Route}
-use Rattle.conf_model.specs.declared.route.Via.{Via}
-use Rattle.conf_model.specs.declared.rule.ClientRule.{ClientRule}
-use Rattle.conf_model.specs.declared.rule.SocksRule.{SocksRule}
+use Rattle.conf_types.specs.declared.route.Route.{Route}
+use Rattle.conf_types.specs.declared.route.Via.{Via}
+use Rattle.conf_types.specs.declared.rule.ClientRule.{ClientRule}
+use Rattle.conf_types.specs.declared.rule.SocksRule.{SocksRule}
 
 abbrev pub is_direct : Via → Bool
 is_direct Via.Direct = true

@@ -1,6 +1,6 @@
 -- The lines that give the users who may log in.
 use Rattle.std.specs.Prelude.{◌≡◌, ℕ, Ok, Err, List, codes}
-use Rattle.conf_model.specs.declared.user.User.{User}
+use Rattle.socks_grammar.specs.declared.user.User.{User}
 use Rattle.user_login.specs.declared.fault.UsersFault.{UsersFault}
 use Rattle.user_login.specs.UsersFile.{users_of}
 use Rattle.replay_script.specs.Counted.{Counts}

@@ -1,13 +1,14 @@
 ghost use Rattle.std.specs.Prelude.{◌≡◌, ◌≢◌, IfErr, IfOk, MatchBool, MatchOption};
-ghost use Rattle.conf_model.specs.declared.config.Config.{Config as SomeConfig};
-ghost use Rattle.conf_model.specs.Plain.{IsPlain};
+ghost use Rattle.conf_types.specs.declared.entries.Entries.{Entries};
+ghost use Rattle.conf_types.specs.Plain.{IsPlain};
 ghost use Rattle.replay_script.specs.Conf.{Publishes, Unpublished};
 ghost use Rattle.replay_script.specs.PlainTests.{is_direct as direct_by, are_direct as all_direct_by, are_free_clients as free_clients_by, are_free_requests as free_requests_by};
 ghost use Rattle.replay_script.specs.Script.{RefusesText};
 
 use crate::counted::counted;
 use crate::fault::ScriptKind;
-use conf_model::{ClientRule, Config, Route, SocksRule, Via};
+use conf_model::read_config;
+use conf_types::{ClientRule, Config, Route, SocksRule, Via};
 use std::alloc::Global;
 
 fn is_direct(via: &Via) -> bool
@@ -38,13 +39,13 @@ fn are_free_requests(rules: &[SocksRule]) -> bool
 fn is_plain(config: &Config) -> bool
     ensures { MatchBool result (IsPlain config.now) (IsPlain config.now → ⊥) }
 {
-    if !are_direct(config.routes.as_slice()) {
+    if !are_direct(config.entries().routes.as_slice()) {
         return false;
     }
-    if !are_free_clients(config.client.as_slice()) {
+    if !are_free_clients(config.entries().client.as_slice()) {
         return false;
     }
-    are_free_requests(config.socks.as_slice())
+    are_free_requests(config.entries().socks.as_slice())
 }
 
 /// The configuration that a text publishes, its count of lines with the `publish` line, and the text behind it. It is `None`
@@ -56,7 +57,7 @@ pub fn publish(alloc: Global, text: &[u8]) -> Result<Option<(Config, u64, &[u8])
     let Some((counted, lines, behind)) = counted(alloc, text, b"publish ")? else {
         return Ok(None);
     };
-    match Config::read(alloc, counted) {
+    match read_config(alloc, counted) {
         Err(fault) => Err(ScriptKind::from(fault)),
         Ok(config) => {
             if is_plain(&config) {

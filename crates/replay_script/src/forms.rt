@@ -9,7 +9,7 @@ ghost use Rattle.replay_script.specs.Forms.{Spells, IsNumbered, IsOpen, IsSent, 
 use crate::cuts::{behind, cut, number, number_then, same};
 use crate::values::{address, endpoint, hex};
 use addr_pattern::Endpoint;
-use conf_text::Text;
+use lists::Text;
 use socks_machine::{CallKind, Object, Outer, ScriptLine};
 use std::alloc::{AllocError, Global};
 

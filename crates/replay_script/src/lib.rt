@@ -13,11 +13,11 @@ mod state;
 mod users;
 mod values;
 
-pub use entry::Entry;
+pub use entry::TextLine;
 pub use fault::{ScriptFault, ScriptKind};
 pub use laws::{faultless_script, one_fault, one_reading};
 pub use script::read_script;
-pub use state::{Side, State};
+pub use state::{AssociationState, State};
 
 #[cfg(test)]
 mod tests;

@@ -1,35 +1,35 @@
 ghost use Rattle.std.specs.Prelude.{◌≡◌, ◌≢◌, ◌≤◌, ◌++◌, [], ◌∷◌, ℕ, List as Items, length, IfErr, IfOk, OnOk, MatchOption};
-ghost use Rattle.replay_script.specs.declared.entry.Entry.{Entry as SomeEntry};
+ghost use Rattle.replay_script.specs.declared.entry.TextLine.{TextLine as SomeEntry};
 ghost use Rattle.replay_script.specs.Conditions.{IsServed};
 ghost use Rattle.replay_script.specs.Cuts.{IsLine};
 ghost use Rattle.replay_script.specs.Script.{OnRead, OnLines, MayStep, Entered, Begins, BeginsNothing, IsServedEntry, Refuses, RefusesText, SpellsEntry, lines_of, longest};
 
 use crate::conf::publish;
 use crate::cuts::{first_line, same};
-use crate::entry::Entry;
+use crate::entry::TextLine;
 use crate::fault::{ScriptFault, ScriptKind};
 use crate::forms::{is_skipped, line_of};
 use crate::state::State;
 use crate::users::give;
-use conf_text::List;
+use lists::List;
 use socks_machine::ScriptLine;
 use std::alloc::{AllocError, Global};
 
 /// What a text line is.
-fn entry_of(alloc: Global, text: &[u8]) -> Result<Option<Entry>, AllocError>
+fn entry_of(alloc: Global, text: &[u8]) -> Result<Option<TextLine>, AllocError>
     ensures { IfOk result (λ found. MatchOption found ((entry : SomeEntry) → SpellsEntry text.now entry → ⊥) (λ entry. SpellsEntry text.now entry)) }
 {
     if is_skipped(text) {
-        return Ok(Some(Entry::Skipped));
+        return Ok(Some(TextLine::Skipped));
     }
     let Some(line) = line_of(alloc, text)? else {
         return Ok(None);
     };
-    Ok(Some(Entry::Served(line)))
+    Ok(Some(TextLine::Served(line)))
 }
 
 /// The one text line at the front of a text, and the text behind it.
-fn single(alloc: Global, text: &[u8]) -> Result<Option<(Entry, &[u8])>, AllocError>
+fn single(alloc: Global, text: &[u8]) -> Result<Option<(TextLine, &[u8])>, AllocError>
     ensures { IfOk result (λ found. MatchOption found ((entry : SomeEntry) (line behind : Items ℕ) → IsLine text.now line behind → SpellsEntry line entry → ⊥)
         (λ p. (line : Items ℕ) × IsLine text.now line p.1.now × SpellsEntry line p.0)) }
 {
@@ -44,14 +44,14 @@ fn single(alloc: Global, text: &[u8]) -> Result<Option<(Entry, &[u8])>, AllocErr
 }
 
 /// The entry at the front of a text, its count of lines, and the text behind it.
-fn begins(alloc: Global, text: &[u8]) -> Result<Option<(Entry, u64, &[u8])>, ScriptKind>
+fn begins(alloc: Global, text: &[u8]) -> Result<Option<(TextLine, u64, &[u8])>, ScriptKind>
     ensures begins { IfOk result (λ found. MatchOption found (BeginsNothing text.now) (λ p. Begins text.now p.0 p.1 p.2.now)) }
     ensures refused { IfErr result (λ kind. kind ≢ ScriptKind.Memory → RefusesText text.now kind) }
 {
     match publish(alloc, text) {
         Err(kind) => return Err(kind),
         Ok(Some((config, lines, behind))) => {
-            let entry = Entry::Served(ScriptLine::Publish(config));
+            let entry = TextLine::Served(ScriptLine::Publish(config));
             return Ok(Some((entry, lines, behind)));
         }
         Ok(None) => {}
@@ -59,7 +59,7 @@ fn begins(alloc: Global, text: &[u8]) -> Result<Option<(Entry, u64, &[u8])>, Scr
     match give(alloc, text) {
         Err(kind) => return Err(kind),
         Ok(Some((users, lines, behind))) => {
-            let entry = Entry::Served(ScriptLine::UsersAre(users));
+            let entry = TextLine::Served(ScriptLine::UsersAre(users));
             return Ok(Some((entry, lines, behind)));
         }
         Ok(None) => {}
@@ -72,13 +72,13 @@ fn begins(alloc: Global, text: &[u8]) -> Result<Option<(Entry, u64, &[u8])>, Scr
 }
 
 /// Goes on behind an entry, and says whether it keeps its condition.
-fn enters(alloc: Global, state: &mut State, entry: &Entry) -> Result<bool, AllocError>
+fn enters(alloc: Global, state: &mut State, entry: &TextLine) -> Result<bool, AllocError>
     requires { IsServedEntry entry.now }
     ensures { IfOk result (λ done. Entered state.old state.new entry.now done) }
 {
     match entry {
-        Entry::Skipped => Ok(true),
-        Entry::Served(line) => state.step(alloc, line),
+        TextLine::Skipped => Ok(true),
+        TextLine::Served(line) => state.step(alloc, line),
     }
 }
 
@@ -87,7 +87,7 @@ fn served<'a>(
     alloc: Global,
     state: &mut State,
     text: &'a [u8],
-) -> Result<Option<(Entry, u64, &'a [u8])>, ScriptKind>
+) -> Result<Option<(TextLine, u64, &'a [u8])>, ScriptKind>
     ensures steps { IfOk result (λ found. MayStep state.old state.new text.now found) }
     ensures refused { IfErr result (λ kind. kind ≢ ScriptKind.Memory → Refuses state.old text.now kind) }
 {
@@ -104,12 +104,12 @@ fn served<'a>(
 }
 
 /// Goes on with an entry, which adds a line unless it is skipped.
-fn add_entry(lines: &mut List<ScriptLine>, entry: Entry) -> Result<(), AllocError>
+fn add_entry(lines: &mut List<ScriptLine>, entry: TextLine) -> Result<(), AllocError>
     ensures { OnOk result (lines.new ≡ lines.old ++ lines_of (entry ∷ [])) }
 {
     match entry {
-        Entry::Skipped => Ok(()),
-        Entry::Served(line) => lines.push(line),
+        TextLine::Skipped => Ok(()),
+        TextLine::Served(line) => lines.push(line),
     }
 }
 

@@ -9,16 +9,16 @@ ghost use Rattle.replay_script.specs.Script.{is_looked_at};
 ghost use Rattle.user_login.specs.UsersFile.{are_users};
 
 use crate::fault::ScriptKind;
-use conf_model::User;
-use conf_text::{List, Text};
 use handshake_core::is_served_input;
+use lists::{List, Text};
+use socks_grammar::User;
 use socks_machine::ScriptLine;
 use std::alloc::{AllocError, Global};
 use user_login::Users;
 
 /// What the lines so far say of one association.
 #[derive(Drop)]
-pub struct Side {
+pub struct AssociationState {
     /// The bytes of the client.
     pub c: Text,
     /// Whether the client has ended.
@@ -42,14 +42,14 @@ pub struct State {
     /// In seconds.
     pub moment: u64,
     /// The associations in their order.
-    pub sides: List<Side>,
+    pub sides: List<AssociationState>,
 }
 
-impl Side {
-    fn fresh(alloc: Global) -> Side
+impl AssociationState {
+    fn fresh(alloc: Global) -> AssociationState
         ensures { result ≡ fresh_side }
     {
-        Side {
+        AssociationState {
             c: Text::make(alloc),
             end_c: false,
             end_t: false,
@@ -94,7 +94,7 @@ impl State {
         let Some(at) = self.place(number) else {
             return false;
         };
-        let mut side = self.sides.replace(at, Side::fresh(alloc));
+        let mut side = self.sides.replace(at, AssociationState::fresh(alloc));
         if side.end_c {
             return false;
         }
@@ -109,7 +109,7 @@ impl State {
         let Some(at) = self.place(number) else {
             return false;
         };
-        let mut side = self.sides.replace(at, Side::fresh(alloc));
+        let mut side = self.sides.replace(at, AssociationState::fresh(alloc));
         if side.end_t {
             return false;
         }
@@ -124,7 +124,7 @@ impl State {
         let Some(at) = self.place(number) else {
             return false;
         };
-        let mut side = self.sides.replace(at, Side::fresh(alloc));
+        let mut side = self.sides.replace(at, AssociationState::fresh(alloc));
         if side.looked {
             return false;
         }
@@ -139,7 +139,7 @@ impl State {
         let Some(at) = self.place(number) else {
             return false;
         };
-        let mut side = self.sides.replace(at, Side::fresh(alloc));
+        let mut side = self.sides.replace(at, AssociationState::fresh(alloc));
         if side.dialled {
             return false;
         }
@@ -154,7 +154,7 @@ impl State {
         let Some(at) = self.place(number) else {
             return Ok(false);
         };
-        let mut side = self.sides.replace(at, Side::fresh(alloc));
+        let mut side = self.sides.replace(at, AssociationState::fresh(alloc));
         if side.end_c {
             return Ok(false);
         }
@@ -185,7 +185,7 @@ impl State {
         if number == 0 || number - 1 != self.sides.len() as u64 {
             return Ok(false);
         }
-        self.sides.push(Side::fresh(alloc))?;
+        self.sides.push(AssociationState::fresh(alloc))?;
         Ok(true)
     }
 

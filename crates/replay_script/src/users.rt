@@ -4,8 +4,8 @@ ghost use Rattle.replay_script.specs.Users.{Gives, Ungiven};
 
 use crate::counted::counted;
 use crate::fault::ScriptKind;
-use conf_model::User;
-use conf_text::List;
+use lists::List;
+use socks_grammar::User;
 use std::alloc::Global;
 use user_login::Users;
 

@@ -4,8 +4,8 @@ ghost use Rattle.addr_pattern.specs.declared.endpoint.Endpoint.{Endpoint as Some
 ghost use Rattle.replay_script.specs.Forms.{IsAddress, IsEndpoint, IsHex};
 
 use addr_pattern::{Addr, Endpoint};
-use conf_text::Text;
 use hex::FromHexError;
+use lists::Text;
 use std::alloc::{AllocError, Global};
 
 /// The endpoint that a text spells.

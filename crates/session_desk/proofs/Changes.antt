@@ -4,7 +4,7 @@ use Rattle.std.specs.Prelude.{if◌then◌else◌}
 use Rattle.std.proofs.lemmas.Bool.Decides.{nat_tests}
 use Rattle.socks_machine.specs.History.{Stand, is_live}
 use Rattle.session_desk.specs.declared.entry.Live.{Live}
-use Rattle.session_desk.specs.declared.entry.Entry.{Entry}
+use Rattle.session_desk.specs.declared.entry.LiveAssociation.{LiveAssociation}
 use Rattle.session_desk.specs.Entries.{stand_of_live, has_number, standing_in, IsApart, renewed, without}
 
 pub stand_of_live-is_live : (live : Live) → is_live (stand_of_live live) ≡ true
@@ -33,7 +33,7 @@ exchanged x e m apart a b rest =
 
 -- ---- one entry more
 
-pub standing_in-more : (es : List Entry) (e : Entry) (m : ℕ) → standing_in es e.number ≡ Stand.Gone
+pub standing_in-more : (es : List LiveAssociation) (e : LiveAssociation) (m : ℕ) → standing_in es e.number ≡ Stand.Gone
     → standing_in (es ++ e ∷ []) m ≡ (if has_number m e then stand_of_live e.live else standing_in es m)
 standing_in-more [] e m h = refl
 standing_in-more (x ∷ es) e m h =
@@ -41,7 +41,7 @@ standing_in-more (x ∷ es) e m h =
     ap (λ rest. cond (has_number m x) (stand_of_live x.live) rest) (standing_in-more es e m gone.1)
     ∙ exchanged x.number e.number m gone.0 (stand_of_live x.live) (stand_of_live e.live) (standing_in es m)
 
-pub IsApart-more : (es : List Entry) (e : Entry) → standing_in es e.number ≡ Stand.Gone → IsApart es → IsApart (es ++ e ∷ [])
+pub IsApart-more : (es : List LiveAssociation) (e : LiveAssociation) → standing_in es e.number ≡ Stand.Gone → IsApart es → IsApart (es ++ e ∷ [])
 IsApart-more [] e h apart = (refl, tt)
 IsApart-more (x ∷ es) e h apart =
     let gone = gone_behind (has_number e.number x) x.live (standing_in es e.number) h in
@@ -54,7 +54,7 @@ IsApart-more (x ∷ es) e h apart =
 abbrev renewal : ℕ → Live → ℕ → Stand → Stand
 renewal n live m stand = if n == m then (if is_live stand then stand_of_live live else Stand.Gone) else stand
 
-pub standing_in-renewed : (n : ℕ) (live : Live) (es : List Entry) (m : ℕ) → standing_in (renewed n live es) m ≡ renewal n live m (standing_in es m)
+pub standing_in-renewed : (n : ℕ) (live : Live) (es : List LiveAssociation) (m : ℕ) → standing_in (renewed n live es) m ≡ renewal n live m (standing_in es m)
 standing_in-renewed n live [] m = sym (cond-same (n == m) Stand.Gone)
 standing_in-renewed n live (x ∷ es) m =
     by_cases (standing_in (renewed n live (x ∷ es)) m ≡ renewal n live m (standing_in (x ∷ es) m)) (has_number n x)
@@ -66,7 +66,7 @@ standing_in-renewed n live (x ∷ es) m =
     (λ found. let other : (n == m) ≡ false = grind (arith, nat_tests, behind, found) in rw behind (rw found (rw other refl)))
     (λ lost. rw behind (rw lost (standing_in-renewed n live es m))))
 
-pub IsApart-renewed : (n : ℕ) (live : Live) (es : List Entry) → IsApart es → IsApart (renewed n live es)
+pub IsApart-renewed : (n : ℕ) (live : Live) (es : List LiveAssociation) → IsApart es → IsApart (renewed n live es)
 IsApart-renewed n live [] apart = tt
 IsApart-renewed n live (x ∷ es) apart =
     by_cases (IsApart (renewed n live (x ∷ es))) (has_number n x)
@@ -76,7 +76,7 @@ IsApart-renewed n live (x ∷ es) apart =
 
 -- ---- no entry of a number
 
-pub standing_in-without : (n : ℕ) (es : List Entry) (m : ℕ) → IsApart es → standing_in (without n es) m ≡ cond (n == m) Stand.Gone (standing_in es m)
+pub standing_in-without : (n : ℕ) (es : List LiveAssociation) (m : ℕ) → IsApart es → standing_in (without n es) m ≡ cond (n == m) Stand.Gone (standing_in es m)
 standing_in-without n [] m apart = sym (cond-same (n == m) Stand.Gone)
 standing_in-without n (x ∷ es) m apart =
     by_cases (standing_in (without n (x ∷ es)) m ≡ cond (n == m) Stand.Gone (standing_in (x ∷ es) m)) (has_number n x)
@@ -87,7 +87,7 @@ standing_in-without n (x ∷ es) m apart =
     (λ found. let other : (n == m) ≡ false = grind (arith, nat_tests, behind, found) in rw behind (rw found (rw other refl)))
     (λ lost. rw behind (rw lost (standing_in-without n es m apart.1))))
 
-pub IsApart-without : (n : ℕ) (es : List Entry) → IsApart es → IsApart (without n es)
+pub IsApart-without : (n : ℕ) (es : List LiveAssociation) → IsApart es → IsApart (without n es)
 IsApart-without n [] apart = tt
 IsApart-without n (x ∷ es) apart =
     by_cases (IsApart (without n (x ∷ es))) (has_number n x) (λ here. rw here apart.1)

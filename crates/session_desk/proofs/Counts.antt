@@ -8,7 +8,7 @@ use Rattle.std.proofs.lemmas.Bool.Decides.{nat_tests}
 use Rattle.socks_machine.specs.declared.cause.ListKind.{ListKind}
 use Rattle.socks_machine.specs.declared.lines.Line.{Line}
 use Rattle.socks_machine.specs.History.{Stand, is_live, is_under, stand_after, stand_opened, stand_of, opened_number, opened_numbers, distinct, live_count, held}
-use Rattle.session_desk.specs.declared.entry.Entry.{Entry}
+use Rattle.session_desk.specs.declared.entry.LiveAssociation.{LiveAssociation}
 use Rattle.session_desk.specs.Entries.{stand_of_live, standing_in, IsApart, held_in}
 use Rattle.session_desk.proofs.Changes.{by_cases, cond-same, stand_of_live-is_live}
 
@@ -114,9 +114,9 @@ and-false : (b : Bool) → (b && false) ≡ false
 and-false true = refl
 and-false false = refl
 
-counts_in : (f : Stand → Bool) → f Stand.Gone ≡ false → (ns : List ℕ) → IsDistinct ns → (es : List Entry) → IsApart es
+counts_in : (f : Stand → Bool) → f Stand.Gone ≡ false → (ns : List ℕ) → IsDistinct ns → (es : List LiveAssociation) → IsApart es
     → ((n : ℕ) → f (standing_in es n) ≡ true → is_in n ns ≡ true)
-    → count_by (λ n. f (standing_in es n)) ns ≡ count_by (λ (e : Entry). f (stand_of_live e.live)) es
+    → count_by (λ n. f (standing_in es n)) ns ≡ count_by (λ (e : LiveAssociation). f (stand_of_live e.live)) es
 counts_in f gone ns once [] apart within = ap (λ t. count_by (λ (n : ℕ). t) ns) gone ∙ none_counted ns
 counts_in f gone ns once (e ∷ es) apart within =
     let stand = stand_of_live e.live in
@@ -132,32 +132,32 @@ counts_in f gone ns once (e ∷ es) apart within =
     by_cases (cond (is_in e.number ns && f stand) 1 0 ≡ cond (f stand) 1 0) (f stand)
     (λ live. let listed : is_in e.number ns ≡ true = within e.number (rw this live) in rw listed refl)
     (λ dead. rw dead (rw (and-false (is_in e.number ns)) refl)) in
-    let under : Entry → Bool = λ (x : Entry). f (stand_of_live x.live) in
+    let under : LiveAssociation → Bool = λ (x : LiveAssociation). f (stand_of_live x.live) in
     add_entry (count_by (λ n. f (standing_in (e ∷ es) n)) ns) (count_by (λ n. f (standing_in es n)) ns) (count_by under es) (count_by under (e ∷ es)) (cond (f stand) 1 0)
     (cond (is_in e.number ns && f stand) 1 0) more rest counted (count_cons under e es (f stand) refl)
 
 -- the live numbers of the history that pass a test are as many as the entries that pass it
-counts : (f : Stand → Bool) → f Stand.Gone ≡ false → (h : List Line) (es : List Entry) → IsApart es → ((n : ℕ) → standing_in es n ≡ stand_of h n)
-    → count_by (λ n. f (stand_of h n)) (opened_numbers h) ≡ count_by (λ (e : Entry). f (stand_of_live e.live)) es
+counts : (f : Stand → Bool) → f Stand.Gone ≡ false → (h : List Line) (es : List LiveAssociation) → IsApart es → ((n : ℕ) → standing_in es n ≡ stand_of h n)
+    → count_by (λ n. f (stand_of h n)) (opened_numbers h) ≡ count_by (λ (e : LiveAssociation). f (stand_of_live e.live)) es
 counts f gone h es apart same =
     let stands : stand_of h ≡ standing_in es = fun_ext (λ n. sym (same n)) in
     ap (λ (s : ℕ → Stand). count_by (λ n. f (s n)) (opened_numbers h)) stands
     ∙ counts_in f gone (opened_numbers h) (IsDistinct-distinct (filter_map opened_number h)) es apart
     (λ n live. opened_if_live f gone h n (ap f (sym (same n)) ∙ live))
 
-all_live : (es : List Entry) → count_by (λ (e : Entry). is_live (stand_of_live e.live)) es ≡ length es
+all_live : (es : List LiveAssociation) → count_by (λ (e : LiveAssociation). is_live (stand_of_live e.live)) es ≡ length es
 all_live [] = refl
 all_live (e ∷ es) =
-    let first = count_cons (λ (x : Entry). is_live (stand_of_live x.live)) e es true (stand_of_live-is_live e.live) in
+    let first = count_cons (λ (x : LiveAssociation). is_live (stand_of_live x.live)) e es true (stand_of_live-is_live e.live) in
     first ∙ (ap (λ n. 1 + n) (all_live es) ∙ omega arith)
 
-pub live_count-length : (h : List Line) (es : List Entry) → IsApart es → ((n : ℕ) → standing_in es n ≡ stand_of h n) → live_count h ≡ length es
+pub live_count-length : (h : List Line) (es : List LiveAssociation) → IsApart es → ((n : ℕ) → standing_in es n ≡ stand_of h n) → live_count h ≡ length es
 live_count-length h es apart same = counts is_live refl h es apart same ∙ all_live es
 
 gone_not_under : (generation : ℕ) (kind : ListKind) (rule : ℕ) → is_under generation kind rule Stand.Gone ≡ false
 gone_not_under generation ListKind.Client rule = refl
 gone_not_under generation ListKind.Socks rule = refl
 
-pub held-held_in : (h : List Line) (es : List Entry) → IsApart es → ((n : ℕ) → standing_in es n ≡ stand_of h n)
+pub held-held_in : (h : List Line) (es : List LiveAssociation) → IsApart es → ((n : ℕ) → standing_in es n ≡ stand_of h n)
     → (generation : ℕ) (kind : ListKind) (rule : ℕ) → held h generation kind rule ≡ held_in es generation kind rule
 held-held_in h es apart same generation kind rule = counts (is_under generation kind rule) (gone_not_under generation kind rule) h es apart same

@@ -17,7 +17,7 @@ use Rattle.rule_list.specs.Rules.{is_pass}
 use Rattle.socks_machine.specs.History as history
 use Rattle.socks_machine.specs.History.{Stand, Desked, stand_of, stand_opened, stand_after, standing, last_mark, is_log, mark_log, live_count, at_open, at_grant, at_close}
 use Rattle.session_desk.specs.declared.entry.Live.{Live}
-use Rattle.session_desk.specs.declared.entry.Entry.{Entry}
+use Rattle.session_desk.specs.declared.entry.LiveAssociation.{LiveAssociation}
 use Rattle.session_desk.specs.Calls.{Opens, Grants, Closes}
 use Rattle.session_desk.specs.Entries.{standing_in, IsApart, renewed, without}
 use Rattle.session_desk.specs.Books.{Book, Answered, counted, with_line, unchanged, unless_stopped, with_entry, opened_standing, opened, full_in, or_full, granted_unless, granted_verdict, granted_standing, granted, without_entry, closed_standing, closed}
@@ -76,7 +76,7 @@ room_after n n' marks same log after =
     let e : true ≡ false = rw (last_mark-mark_log marks log) at marked in cc)
 
 -- a line that was counted, with the entries that it leaves
-counted_line : (b : Book) (h : List Line) (marks : List StopBy) (es : List Entry) (line : Line) → StandsFor b h marks
+counted_line : (b : Book) (h : List Line) (marks : List StopBy) (es : List LiveAssociation) (line : Line) → StandsFor b h marks
     → is_log (last_mark marks) ≡ false → ((n : ℕ) → standing_in es n ≡ stand_after n (stand_of h n) line) → IsApart es
     → StandsFor (counted (record b { entries = es })) (h ++ line ∷ []) (marks_after marks (length h))
 counted_line b h marks es line stands log same apart =
@@ -92,7 +92,7 @@ counted_line b h marks es line stands log same apart =
     }
 
 -- the same where no further line is numbered
-unnumbered_line : (b : Book) (h : List Line) (marks : List StopBy) (es : List Entry) (line : Line) → StandsFor b h marks
+unnumbered_line : (b : Book) (h : List Line) (marks : List StopBy) (es : List LiveAssociation) (line : Line) → StandsFor b h marks
     → is_log (last_mark marks) ≡ true → ((n : ℕ) → standing_in es n ≡ stand_after n (stand_of h n) line) → IsApart es
     → StandsFor (counted (record b { entries = es })) (h ++ line ∷ []) marks
 unnumbered_line b h marks es line stands log same apart =
@@ -112,7 +112,7 @@ refused : {A : Type 0} (b : Book) (h : List Line) (marks : List StopBy) → Stan
     → Agrees (unchanged b said) (history.refused_at h marks said')
 refused b h marks stands said said' same = record { said = same; stands = stands }
 
-numbered : (b : Book) (h : List Line) (marks : List StopBy) (es : List Entry) (line : Line) → StandsFor b h marks
+numbered : (b : Book) (h : List Line) (marks : List StopBy) (es : List LiveAssociation) (line : Line) → StandsFor b h marks
     → is_log (last_mark marks) ≡ false → ((n : ℕ) → standing_in es n ≡ stand_after n (stand_of h n) line) → IsApart es
     → Agrees (with_line (counted (record b { entries = es }))) (history.stepped h marks true line (Said.Done (length h + 1)) Said.LogFault)
 numbered b h marks es line stands log same apart = record {
@@ -157,7 +157,7 @@ admitted_agrees b h marks stands none l gone live true true true p c e =
     let same : b.cap ≡ live_count h = grind (arith, nat_tests, c, live) in
     refused b h marks stands (Said.Crowded b.cap b.cap) (Said.Crowded (live_count h) b.cap) (ap (λ n. Said.Crowded n b.cap) same)
 admitted_agrees b h marks stands none l gone live true false false p c e =
-    let entry : Entry = record { number = l.number; live = Live.Opened } in
+    let entry : LiveAssociation = record { number = l.number; live = Live.Opened } in
     numbered b h marks (b.entries ++ entry ∷ []) (Line.Open l) stands (unmarked marks none)
     (λ m. standing_in-more b.entries entry m gone ∙ stand_admitted (l.number == m) l.pass (standing_in b.entries m) (stand_of h m) p (stands.standing m))
     (IsApart-more b.entries entry gone stands.apart)

@@ -1,5 +1,5 @@
--- When the book refuses.
-use Rattle.std.proofs.Common.{ℕ, ◌≡◌, Bool, true, false, ◌==◌, nat_le, Option, Some, None, length, refl, sym, subst}
+-- When the book refuses, and that it never answers that a log failed.
+use Rattle.std.proofs.Common.{ℕ, ◌≡◌, ◌≢◌, ◌∙◌, ap, Bool, true, false, ◌==◌, nat_le, Option, Some, None, length, refl, sym, subst}
 use Rattle.std.specs.Prelude.{if◌then◌else◌}
 use Rattle.std.proofs.lemmas.Bool.{leb-true}
 use Rattle.rule_list.specs.declared.verdict.Verdict.{Verdict}
@@ -108,3 +108,94 @@ may_close_standing b n Standing.Granted = may_shut (counted (without_entry b n))
 pub may_close : (b : Book) (l : CloseLine) (answer : Shut) → answer ≡ (closed b l).said → MayClose answer
 may_close b l answer e =
     subst (λ (said : Shut). MayClose said) (sym e) (may_close_standing b l.number (standing (standing_in b.entries l.number)))
+
+-- ---- no log fails
+
+abbrev is_log_fault : Said → Bool
+is_log_fault Said.LogFault = true
+is_log_fault said = false
+
+abbrev is_log_fault_of_close : Shut → Bool
+is_log_fault_of_close Shut.LogFault = true
+is_log_fault_of_close said = false
+
+another_answer : (said : Said) → is_log_fault said ≡ false → said ≢ Said.LogFault
+another_answer said h is = let e : true ≡ false = sym (ap is_log_fault is) ∙ h in absurd (cc)
+
+another_close : (said : Shut) → is_log_fault_of_close said ≡ false → said ≢ Shut.LogFault
+another_close said h is = let e : true ≡ false = sym (ap is_log_fault_of_close is) ∙ h in absurd (cc)
+
+unless_stopped_unfailing : (b : Book) (mark : Option StopBy) (answer : Answered Said) → is_log_fault answer.said ≡ false → is_log_fault (unless_stopped b mark answer).said ≡ false
+unless_stopped_unfailing b None answer h = h
+unless_stopped_unfailing b (Some by) answer h = refl
+
+admitted_unfailing : (b : Book) (n : ℕ) (pass crowded : Bool) → is_log_fault (let answer : Answered Said =
+    (if pass then (if crowded then unchanged b (Said.Crowded b.cap b.cap) else with_line (counted (with_entry b n))) else with_line (counted b)) in answer.said) ≡ false
+admitted_unfailing b n true true = refl
+admitted_unfailing b n true false = refl
+admitted_unfailing b n false crowded = refl
+
+opened_unfailing : (b : Book) (n : ℕ) (pass : Bool) (stand : Standing) → is_log_fault (opened_standing b n pass stand).said ≡ false
+opened_unfailing b n pass Standing.Absent = admitted_unfailing b n pass (length b.entries == b.cap)
+opened_unfailing b n pass Standing.Opened = refl
+opened_unfailing b n pass Standing.Granted = refl
+
+pub open_unfailing : (b : Book) (l : OpenLine) (answer : Said) → answer ≡ (opened b l).said → answer ≢ Said.LogFault
+open_unfailing b l answer e =
+    let stand = standing (standing_in b.entries l.number) in
+    another_answer answer (ap is_log_fault e ∙ unless_stopped_unfailing b b.stopped (opened_standing b l.number l.pass stand) (opened_unfailing b l.number l.pass stand))
+
+abbrev IsNoFault : Option Said → Type 0
+IsNoFault None = Unit {0}
+IsNoFault (Some said) = is_log_fault said ≡ false
+
+full_no_fault : (full : Bool) (said : Said) → is_log_fault said ≡ false → IsNoFault (if full then Some said else None)
+full_no_fault true said h = h
+full_no_fault false said h = tt
+
+full_in_no_fault : (b : Book) (generation : ℕ) (kind : ListKind) (rule : ℕ) (max : Option ℕ) → IsNoFault (full_in b generation kind rule max)
+full_in_no_fault b generation kind rule None = tt
+full_in_no_fault b generation kind rule (Some limit) =
+    let held = held_in b.entries generation kind rule in full_no_fault (nat_le limit held) (Said.Full kind rule held limit) refl
+
+or_full_no_fault : (x y : Option Said) → IsNoFault x → IsNoFault y → IsNoFault (or_full x y)
+or_full_no_fault None y h k = k
+or_full_no_fault (Some x) y h k = h
+
+granted_unless_unfailing : (b : Book) (n : ℕ) (live : Live) (full : Option Said) → IsNoFault full → is_log_fault (granted_unless b n live full).said ≡ false
+granted_unless_unfailing b n live None h = refl
+granted_unless_unfailing b n live (Some said) h = h
+
+granted_verdict_unfailing : (b : Book) (l : GrantLine) (verdict : Verdict) → is_log_fault (granted_verdict b l verdict).said ≡ false
+granted_verdict_unfailing b l (Verdict.Pass c s) =
+    let client = full_in b l.generation ListKind.Client c l.client_max in
+    let socks = full_in b l.generation ListKind.Socks s l.socks_max in
+    granted_unless_unfailing b l.number (Live.Granted l.generation c s) (or_full client socks)
+    (or_full_no_fault client socks (full_in_no_fault b l.generation ListKind.Client c l.client_max) (full_in_no_fault b l.generation ListKind.Socks s l.socks_max))
+granted_verdict_unfailing b l (Verdict.ClientBlock c) = refl
+granted_verdict_unfailing b l Verdict.ClientNone = refl
+granted_verdict_unfailing b l (Verdict.SocksBlock c s) = refl
+granted_verdict_unfailing b l (Verdict.SocksNone c) = refl
+
+granted_unfailing : (b : Book) (l : GrantLine) (stand : Standing) → is_log_fault (granted_standing b l stand).said ≡ false
+granted_unfailing b l Standing.Absent = refl
+granted_unfailing b l Standing.Opened = granted_verdict_unfailing b l l.verdict
+granted_unfailing b l Standing.Granted = refl
+
+pub grant_unfailing : (b : Book) (l : GrantLine) (answer : Said) → answer ≡ (granted b l).said → answer ≢ Said.LogFault
+grant_unfailing b l answer e =
+    let stand = standing (standing_in b.entries l.number) in
+    another_answer answer (ap is_log_fault e ∙ unless_stopped_unfailing b b.stopped (granted_standing b l stand) (granted_unfailing b l stand))
+
+shut_unfailing : (after : Book) (log : Bool) → is_log_fault_of_close
+    (let answer : Answered Shut = (if log then record { said = Shut.Unlogged; book = after } else record { said = Shut.Done after.lines; book = after }) in answer.said) ≡ false
+shut_unfailing after true = refl
+shut_unfailing after false = refl
+
+closed_unfailing : (b : Book) (n : ℕ) (stand : Standing) → is_log_fault_of_close (closed_standing b n stand).said ≡ false
+closed_unfailing b n Standing.Absent = refl
+closed_unfailing b n Standing.Opened = shut_unfailing (counted (without_entry b n)) (is_log b.stopped)
+closed_unfailing b n Standing.Granted = shut_unfailing (counted (without_entry b n)) (is_log b.stopped)
+
+pub close_unfailing : (b : Book) (l : CloseLine) (answer : Shut) → answer ≡ (closed b l).said → answer ≢ Shut.LogFault
+close_unfailing b l answer e = another_close answer (ap is_log_fault_of_close e ∙ closed_unfailing b l.number (standing (standing_in b.entries l.number)))

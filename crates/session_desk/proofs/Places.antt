@@ -6,7 +6,7 @@ use Rattle.std.proofs.lemmas.Option.{none-some, same_Some}
 use Rattle.std.proofs.lemmas.Bool.Decides.{nat_tests}
 use Rattle.socks_machine.specs.History.{Stand}
 use Rattle.session_desk.specs.declared.entry.Live.{Live}
-use Rattle.session_desk.specs.declared.entry.Entry.{Entry}
+use Rattle.session_desk.specs.declared.entry.LiveAssociation.{LiveAssociation}
 use Rattle.session_desk.specs.Books.{Book, with_grant, without_entry}
 use Rattle.session_desk.specs.Entries.{stand_of_live, has_number, standing_in, renewed, without}
 
@@ -25,7 +25,7 @@ none_behind true found h = cc
 none_behind false None h = (refl, refl)
 none_behind false (Some i) h = cc
 
-pub standing_in-none : (n : ℕ) (es : List Entry) → position (has_number n) es ≡ None → standing_in es n ≡ Stand.Gone
+pub standing_in-none : (n : ℕ) (es : List LiveAssociation) → position (has_number n) es ≡ None → standing_in es n ≡ Stand.Gone
 standing_in-none n [] h = refl
 standing_in-none n (e ∷ es) h =
     let found = none_behind (has_number n e) (position (has_number n) es) (sym (position-cons (has_number n) e es) ∙ h) in
@@ -37,9 +37,9 @@ some_behind true found i h = inl (refl, same_Some 0 i h)
 some_behind false None i h = absurd (none-some i h)
 some_behind false (Some j) i h = inr (refl, (j, (refl, same_Some (suc j) i h)))
 
-by_entry : (P : List Entry → ℕ → Type 0) (n : ℕ) → ((e : Entry) (es : List Entry) → has_number n e ≡ true → P (e ∷ es) 0)
-    → ((e : Entry) (es : List Entry) (i : ℕ) → has_number n e ≡ false → P es i → P (e ∷ es) (suc i))
-    → (e : Entry) (es : List Entry) (i : ℕ) → ((j : ℕ) → position (has_number n) es ≡ Some j → P es j)
+by_entry : (P : List LiveAssociation → ℕ → Type 0) (n : ℕ) → ((e : LiveAssociation) (es : List LiveAssociation) → has_number n e ≡ true → P (e ∷ es) 0)
+    → ((e : LiveAssociation) (es : List LiveAssociation) (i : ℕ) → has_number n e ≡ false → P es i → P (e ∷ es) (suc i))
+    → (e : LiveAssociation) (es : List LiveAssociation) (i : ℕ) → ((j : ℕ) → position (has_number n) es ≡ Some j → P es j)
     → cond (has_number n e) (Some 0) (option_map suc (position (has_number n) es)) ≡ Some i → P (e ∷ es) i
 by_entry P n here behind e es i rest h =
     elim (some_behind (has_number n e) (position (has_number n) es) i h) [
@@ -48,32 +48,32 @@ by_entry P n here behind e es i rest h =
     ]
 
 -- a fact about the place of a number, by the entries before it
-at_place : (P : List Entry → ℕ → Type 0) (n : ℕ) → ((e : Entry) (es : List Entry) → has_number n e ≡ true → P (e ∷ es) 0)
-    → ((e : Entry) (es : List Entry) (i : ℕ) → has_number n e ≡ false → P es i → P (e ∷ es) (suc i))
-    → (es : List Entry) (i : ℕ) → position (has_number n) es ≡ Some i → P es i
+at_place : (P : List LiveAssociation → ℕ → Type 0) (n : ℕ) → ((e : LiveAssociation) (es : List LiveAssociation) → has_number n e ≡ true → P (e ∷ es) 0)
+    → ((e : LiveAssociation) (es : List LiveAssociation) (i : ℕ) → has_number n e ≡ false → P es i → P (e ∷ es) (suc i))
+    → (es : List LiveAssociation) (i : ℕ) → position (has_number n) es ≡ Some i → P es i
 at_place P n here behind [] i h = absurd (none-some i h)
 at_place P n here behind (e ∷ es) i h =
     by_entry P n here behind e es i (at_place P n here behind es) (sym (position-cons (has_number n) e es) ∙ h)
 
-pub standing_in-some : (n : ℕ) (es : List Entry) (i : ℕ) (d : Entry) → position (has_number n) es ≡ Some i → standing_in es n ≡ stand_of_live (get_or es i d).live
+pub standing_in-some : (n : ℕ) (es : List LiveAssociation) (i : ℕ) (d : LiveAssociation) → position (has_number n) es ≡ Some i → standing_in es n ≡ stand_of_live (get_or es i d).live
 standing_in-some n es i d =
     at_place (λ es i. standing_in es n ≡ stand_of_live (get_or es i d).live) n (λ e es h. rw h refl) (λ e es i h before. rw h before) es i
 
-set-place : (n : ℕ) (live : Live) (es : List Entry) (i : ℕ) → position (has_number n) es ≡ Some i → slice_set es i (record { number = n; live = live }) ≡ renewed n live es
+set-place : (n : ℕ) (live : Live) (es : List LiveAssociation) (i : ℕ) → position (has_number n) es ≡ Some i → slice_set es i (record { number = n; live = live }) ≡ renewed n live es
 set-place n live es i =
     at_place (λ es i. slice_set es i (record { number = n; live = live }) ≡ renewed n live es) n (λ e es h. rw h refl) (λ e es i h before. rw h (ap (λ rest. e ∷ rest) before)) es i
 
-remove-place : (n : ℕ) (es : List Entry) (i : ℕ) → position (has_number n) es ≡ Some i → remove es i ≡ without n es
+remove-place : (n : ℕ) (es : List LiveAssociation) (i : ℕ) → position (has_number n) es ≡ Some i → remove es i ≡ without n es
 remove-place n es i =
     at_place (λ es i. remove es i ≡ without n es) n (λ e es h. rw h refl) (λ e es i h before. rw h (ap (λ rest. e ∷ rest) before)) es i
 
-pub renewed-none : (n : ℕ) (live : Live) (es : List Entry) → position (has_number n) es ≡ None → renewed n live es ≡ es
+pub renewed-none : (n : ℕ) (live : Live) (es : List LiveAssociation) → position (has_number n) es ≡ None → renewed n live es ≡ es
 renewed-none n live [] h = refl
 renewed-none n live (e ∷ es) h =
     let found = none_behind (has_number n e) (position (has_number n) es) (sym (position-cons (has_number n) e es) ∙ h) in
     rw found.0 (ap (λ rest. e ∷ rest) (renewed-none n live es found.1))
 
-pub without-none : (n : ℕ) (es : List Entry) → position (has_number n) es ≡ None → without n es ≡ es
+pub without-none : (n : ℕ) (es : List LiveAssociation) → position (has_number n) es ≡ None → without n es ≡ es
 without-none n [] h = refl
 without-none n (e ∷ es) h =
     let found = none_behind (has_number n e) (position (has_number n) es) (sym (position-cons (has_number n) e es) ∙ h) in
@@ -85,12 +85,12 @@ pub with_grant-place : (seen b : Book) (n : ℕ) (live : Live) (i : ℕ) → see
     → record seen { entries = slice_set seen.entries i (record { number = n; live = live }) } ≡ with_grant b n live
 with_grant-place seen b n live i same found =
     let P : Book → Type 0 = λ s. record s { entries = slice_set s.entries i (record { number = n; live = live }) } ≡ with_grant b n live in
-    let changed : P b = ap (λ (es : List Entry). let after : Book = record b { entries = es } in after) (set-place n live b.entries i found) in
+    let changed : P b = ap (λ (es : List LiveAssociation). let after : Book = record b { entries = es } in after) (set-place n live b.entries i found) in
     subst P (sym same) changed
 
 pub without_entry-place : (seen b : Book) (n i : ℕ) → seen ≡ b → position (has_number n) b.entries ≡ Some i
     → record seen { entries = remove seen.entries i } ≡ without_entry b n
 without_entry-place seen b n i same found =
     let P : Book → Type 0 = λ s. record s { entries = remove s.entries i } ≡ without_entry b n in
-    let changed : P b = ap (λ (es : List Entry). let after : Book = record b { entries = es } in after) (remove-place n b.entries i found) in
+    let changed : P b = ap (λ (es : List LiveAssociation). let after : Book = record b { entries = es } in after) (remove-place n b.entries i found) in
     subst P (sym same) changed

@@ -11,13 +11,13 @@ use Rattle.socks_machine.specs.declared.lines.Said.{Said}
 use Rattle.socks_machine.specs.declared.lines.Shut.{Shut}
 use Rattle.socks_machine.specs.History.{standing, is_log}
 use Rattle.session_desk.specs.declared.entry.Live.{Live}
-use Rattle.session_desk.specs.declared.entry.Entry.{Entry}
+use Rattle.session_desk.specs.declared.entry.LiveAssociation.{LiveAssociation}
 use Rattle.session_desk.specs.Entries.{standing_in, renewed, without, held_in}
 
 -- how many may be live, the live ones, how many lines there were, up to 2^64 - 1, and the stop mark
 pub record Book : Type 0 where
   pub cap : ℕ
-  pub entries : List Entry
+  pub entries : List LiveAssociation
   pub lines : ℕ
   pub stopped : Option StopBy
 

@@ -1,12 +1,15 @@
-ghost use Rattle.std.specs.Prelude.{◌≡◌, false, ◌<◌, ◌≤◌, ◌==◌, [], length, IfOk, IfSome, position};
+ghost use Rattle.std.specs.Prelude.{◌≡◌, ◌≢◌, List as Lines, false, ◌<◌, ◌≤◌, ◌==◌, [], length, IfOk, IfSome, position};
+ghost use Rattle.socks_machine.specs.declared.cause.StopBy.{StopBy as Mark};
+ghost use Rattle.socks_machine.specs.declared.lines.Line.{Line as SomeLine};
 ghost use Rattle.socks_machine.specs.History.{standing as standing_of, is_log};
 ghost use Rattle.session_desk.specs.Entries.{has_number, standing_in, held_in, renewed, without};
+ghost use Rattle.session_desk.specs.Calls.{Opens, Grants, Closes, MayOpen, MayGrant, MayClose};
 ghost use Rattle.session_desk.specs.Standings.{StandsFor};
 ghost use Rattle.session_desk.specs.Books.{Book, counted, with_entry, with_grant, without_entry, admitted, opened, full_in, or_full, shut, granted_unless, granted_verdict, granted, closed};
 
 use crate::call::DeskCall;
-use crate::entry::{Entry, Live};
-use conf_text::Memory;
+use crate::entry::{Live, LiveAssociation};
+use lists::Memory;
 use rule_list::Verdict;
 use socks_machine::{CloseLine, GrantLine, ListKind, OpenLine, Said, Shut, Standing, StopBy};
 use std::alloc::Global;
@@ -15,7 +18,7 @@ use std::marker::Model;
 /// A desk that keeps the live associations in memory. The count of lines is below 2^64.
 #[derive(Drop)]
 pub struct Desk {
-    entries: Vec<Entry>,
+    entries: Vec<LiveAssociation>,
     cap: u32,
     lines: u64,
     stopped: Option<StopBy>,
@@ -105,7 +108,7 @@ impl Desk {
         requires { length self.old.entries < self.old.cap }
         ensures { self.new ≡ with_entry self.old number }
     {
-        let entry = Entry {
+        let entry = LiveAssociation {
             number,
             live: Live::Opened,
         };
@@ -120,7 +123,7 @@ impl Desk {
     {
         match self.place_of(number) {
             None => {},
-            Some(place) => self.entries[place] = Entry { number, live },
+            Some(place) => self.entries[place] = LiveAssociation { number, live },
         }
     }
 
@@ -298,20 +301,38 @@ impl DeskCall for Desk {
 
     ghost cap = { λ desk. desk.cap };
 
-    fn open(&mut self, line: &OpenLine) -> Said {
+    /// The desk keeps no log, so that none fails.
+    fn open(&mut self, line: &OpenLine) -> Said
+        ensures cap { self.new.cap ≡ self.old.cap }
+        ensures answer { MayOpen self.old.cap line.now result }
+        ensures line { (h : Lines SomeLine) (marks : Lines Mark) → StandsFor self.old h marks → Opens (StandsFor self.new) h marks self.old.cap line.now result }
+        ensures unfailing { result ≢ Said.LogFault }
+    {
         self.answer_open(line)
     }
 
-    fn grant(&mut self, line: &GrantLine) -> Said {
+    /// The desk keeps no log, so that none fails.
+    fn grant(&mut self, line: &GrantLine) -> Said
+        ensures cap { self.new.cap ≡ self.old.cap }
+        ensures answer { MayGrant line.now result }
+        ensures line { (h : Lines SomeLine) (marks : Lines Mark) → StandsFor self.old h marks → Grants (StandsFor self.new) h marks line.now result }
+        ensures unfailing { result ≢ Said.LogFault }
+    {
         self.answer_grant(line)
     }
 
-    fn close(&mut self, line: &CloseLine) -> Shut {
+    /// The desk keeps no log, so that none fails.
+    fn close(&mut self, line: &CloseLine) -> Shut
+        ensures cap { self.new.cap ≡ self.old.cap }
+        ensures answer { MayClose result }
+        ensures line { (h : Lines SomeLine) (marks : Lines Mark) → StandsFor self.old h marks → Closes (StandsFor self.new) h marks line.now result }
+        ensures unfailing { result ≢ Shut.LogFault }
+    {
         self.answer_close(line)
     }
 }
 
-fn count_under(entries: &[Entry], generation: u64, list: ListKind, rule: u32) -> usize
+fn count_under(entries: &[LiveAssociation], generation: u64, list: ListKind, rule: u32) -> usize
     ensures value { result ≡ held_in entries.now generation list rule }
     ensures bound { result ≤ length entries.now }
 {

@@ -48,12 +48,12 @@ impl Live {
 
 /// A live association.
 #[derive(Clone, Copy, PartialEq, Eq, Debug)]
-pub struct Entry {
+pub struct LiveAssociation {
     pub number: u64,
     pub live: Live,
 }
 
-impl Entry {
+impl LiveAssociation {
     pub fn has_number(&self, number: u64) -> bool
         ensures { result ≡ has_number_of number self.now }
     {

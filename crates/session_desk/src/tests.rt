@@ -1,7 +1,7 @@
 use super::{Desk, DeskCall};
 use addr_pattern::{Addr, Endpoint};
-use conf_model::{Command, Method, Version};
 use rule_list::{Facts, Verdict};
+use socks_grammar::{Command, Method, Version};
 use socks_machine::{Cause, CloseLine, GrantLine, ListKind, OpenLine, Said, Shut, Standing};
 use std::test::Fail;
 
@@ -64,24 +64,6 @@ const PASS: Verdict = Verdict::Pass {
     client: 1,
     socks: 2,
 };
-
-#[test]
-fn one_association_at_a_time(rt: HostRuntime) -> Result<(), Fail> {
-    let mut desk = Desk::make(rt.alloc(), 1)?;
-    assert_eq!(rt; open(&mut desk, 7, true), Said::Done(1));
-    assert_eq!(rt; open(&mut desk, 7, true), Said::OutOfTurn(Standing::Opened));
-    assert_eq!(rt; open(&mut desk, 8, true), Said::Crowded { live: 1, cap: 1 });
-    assert_eq!(rt; open(&mut desk, 8, false), Said::Done(2));
-    assert_eq!(rt; close(&mut desk, 8), Shut::OutOfTurn(Standing::Absent));
-    assert_eq!(rt; grant(&mut desk, 7, PASS, (None, None)), Said::Done(3));
-    assert_eq!(rt;
-        grant(&mut desk, 7, PASS, (None, None)),
-        Said::OutOfTurn(Standing::Granted)
-    );
-    assert_eq!(rt; close(&mut desk, 7), Shut::Done(4));
-    assert_eq!(rt; open(&mut desk, 8, true), Said::Done(5));
-    Ok(())
-}
 
 #[test]
 fn limits_of_both_rules(rt: HostRuntime) -> Result<(), Fail> {

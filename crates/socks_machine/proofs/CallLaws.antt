@@ -4,7 +4,7 @@ use Rattle.std.proofs.lemmas.List.{append-nil}
 use Rattle.addr_pattern.specs.declared.addr.Addr.{Addr}
 use Rattle.addr_pattern.specs.declared.endpoint.Endpoint.{Endpoint}
 use Rattle.socks_machine.specs.declared.cause.Cause.{Cause}
-use Rattle.conf_model.specs.declared.protocol.Command.{Command}
+use Rattle.socks_grammar.specs.declared.protocol.Command.{Command}
 use Rattle.socks_machine.specs.declared.record.Gram.{Gram}
 use Rattle.socks_machine.specs.declared.record.Decision.{Decision}
 use Rattle.socks_machine.specs.declared.record.Record.{Record}
@@ -17,7 +17,7 @@ use Rattle.socks_machine.specs.Calls.{Context, TurnResult, keep, decided, call, 
 use Rattle.socks_machine.specs.Datagrams.{owed_datagrams, fates_at, sent_by}
 use Rattle.socks_machine.specs.Decisions.{Grant, granted, reached_at, peer_let_in}
 use Rattle.socks_machine.specs.Equal.{mark_eq}
-use Rattle.conf_model.specs.Handshake.{Request}
+use Rattle.socks_grammar.specs.Handshake.{Request}
 use Rattle.socks_machine.specs.InTurn.{Takes, takings, Sendings, Grows, Going, Calm, Reading, Called, InTurn, is_call, with_sendings}
 use Rattle.socks_machine.specs.Owed.{owed_to_client, owed_to_target, granted_replies_in, refusal_of_in, reply_at, target_by, target_is_there}
 use Rattle.socks_machine.specs.Phase.{Phase, phase, relay_began_in, began_by, began_after_in, way, target_payload_in, client_payload_in}

@@ -3,7 +3,7 @@ use Rattle.std.proofs.Common.{ℕ, zero, suc, ◌≡◌, ◌≤◌, ◌<◌, ref
 use Rattle.std.specs.List.{AllByRecursion}
 use Rattle.addr_pattern.specs.declared.addr.Addr.{Addr}
 use Rattle.addr_pattern.specs.declared.endpoint.Endpoint.{Endpoint}
-use Rattle.conf_model.specs.declared.config.Config.{Config}
+use Rattle.conf_types.specs.declared.entries.Entries.{Entries}
 use Rattle.socks_machine.specs.declared.record.Gram.{Gram}
 use Rattle.socks_machine.specs.declared.record.Record.{Record}
 use Rattle.socks_machine.specs.Basis.{Basis}
@@ -24,26 +24,26 @@ numbered-append : {A : Type 0} (xs more : List A) (n : ℕ) → n ≤ length xs 
 numbered-append xs more zero below = refl
 numbered-append xs more (suc i) below = slice-append xs more i (omega arith)
 
-proxy-later : (basis : Basis) (more : List Config) (g : Grant) → g.generation ≤ length basis.pubs
+proxy-later : (basis : Basis) (more : List Entries) (g : Grant) → g.generation ≤ length basis.pubs
     → proxy_of_grant (with_more basis more) g ≡ proxy_of_grant basis g
 proxy-later basis more g below = ap (proxy_in g.route) (numbered-append basis.pubs more g.generation below)
 
-proxies-later : (basis : Basis) (more : List Config) (g : Option Grant) → IfSome g (λ x. x.generation ≤ length basis.pubs)
+proxies-later : (basis : Basis) (more : List Entries) (g : Option Grant) → IfSome g (λ x. x.generation ≤ length basis.pubs)
     → option_and_then (proxy_of_grant (with_more basis more)) g ≡ option_and_then (proxy_of_grant basis) g
 proxies-later basis more None below = refl
 proxies-later basis more (Some g) below = proxy-later basis more g below
 
-dialogue-later : (basis : Basis) (more : List Config) (heard : List ℕ) (g : Option Grant) → IfSome g (λ x. x.generation ≤ length basis.pubs)
+dialogue-later : (basis : Basis) (more : List Entries) (heard : List ℕ) (g : Option Grant) → IfSome g (λ x. x.generation ≤ length basis.pubs)
     → outcome_of_grant (with_more basis more) heard g ≡ outcome_of_grant basis heard g
 dialogue-later basis more heard None below = refl
 dialogue-later basis more heard (Some g) below = ap (outcome_with heard g) (proxy-later basis more g below)
 
-said-later : (basis : Basis) (more : List Config) (heard : List ℕ) (g : Option Grant) → IfSome g (λ x. x.generation ≤ length basis.pubs)
+said-later : (basis : Basis) (more : List Entries) (heard : List ℕ) (g : Option Grant) → IfSome g (λ x. x.generation ≤ length basis.pubs)
     → said_by_grant (with_more basis more) heard g ≡ said_by_grant basis heard g
 said-later basis more heard None below = refl
 said-later basis more heard (Some g) below = ap (said_with heard g) (proxy-later basis more g below)
 
-fates-later : (pubs more : List Config) (g : Grant) (port : Endpoint) (client : Addr) (known : Option ℕ) (ds : List Gram)
+fates-later : (pubs more : List Entries) (g : Grant) (port : Endpoint) (client : Addr) (known : Option ℕ) (ds : List Gram)
     → AllByRecursion (λ d. d.generation ≤ length pubs) ds → fates (pubs ++ more) g port client known ds ≡ fates pubs g port client known ds
 fates-later pubs more g port client known [] below = refl
 fates-later pubs more g port client known (d ∷ ds) below =
@@ -52,13 +52,13 @@ fates-later pubs more g port client known (d ∷ ds) below =
     ∙ ap (λ fs. fate (numbered pubs d.generation) g port client (learned client known d) d ∷ fs)
     (fates-later pubs more g port client (learned client known d) ds below.1)
 
-all-fates-later : (basis : Basis) (more : List Config) (r : Record) (ds : List Gram) (g : Option Grant) (port : Option Endpoint)
+all-fates-later : (basis : Basis) (more : List Entries) (r : Record) (ds : List Gram) (g : Option Grant) (port : Option Endpoint)
     → AllByRecursion (λ d. d.generation ≤ length basis.pubs) ds → fates_at (with_more basis more) r ds g port ≡ fates_at basis r ds g port
 all-fates-later basis more r ds (Some g) (Some port) below = fates-later basis.pubs more g port r.peer.addr (asked_port g.facts.to.port) ds below
 all-fates-later basis more r ds None port below = refl
 all-fates-later basis more r ds (Some g) None below = refl
 
-view-later : (basis : Basis) (more : List Config) (r : Record) → NamesBelow (length basis.pubs) r → view (with_more basis more) r ≡ view basis r
+view-later : (basis : Basis) (more : List Entries) (r : Record) → NamesBelow (length basis.pubs) r → view (with_more basis more) r ≡ view basis r
 view-later basis more r below = λ i. record {
   front = basis.front;
   split = split_of basis r;

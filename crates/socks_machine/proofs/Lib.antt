@@ -2,6 +2,7 @@ pub mod ActLaws
 pub mod CallLaws
 pub mod DatagramLaws
 pub mod LaterLaws
+pub mod MemoryLaws
 pub mod OwedLaws
 pub mod PhaseActLaws
 pub mod PhaseFactsLaws

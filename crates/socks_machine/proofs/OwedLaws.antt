@@ -3,15 +3,15 @@ use Rattle.std.proofs.Common.{ℕ, ◌≡◌, refl, Bool, true, false, Option, S
 use Rattle.std.proofs.lemmas.List.{append-nil}
 use mathlib.Core.List.{IsPrefix}
 use Rattle.socks_machine.specs.declared.record.Chosen.{Chosen}
-use Rattle.conf_model.specs.Grammar.{Read, Credentials, greeting, login}
+use Rattle.socks_grammar.specs.Grammar.{Read, Credentials, greeting, login}
 use Rattle.socks_machine.specs.Laws.{TalkOwes}
 use Rattle.socks_machine.specs.Socks.{socks, chosen_reply, passed_reply}
 use Rattle.socks_machine.specs.View.{asks_login, login_fits, login_fits_behind}
 use Rattle.socks_machine.specs.Basis.{Basis}
-use Rattle.conf_model.specs.Stable.{Extends}
+use Rattle.socks_grammar.specs.Stable.{Extends}
 use Rattle.socks_machine.specs.Taking.{chosen_after}
-use Rattle.conf_model.specs.declared.protocol.Method.{Method}
-use Rattle.conf_model.proofs.GrammarLaws.{greeting-stable, login-stable}
+use Rattle.socks_grammar.specs.declared.protocol.Method.{Method}
+use Rattle.socks_grammar.proofs.GrammarLaws.{greeting-stable, login-stable}
 
 fits-extends : (basis : Basis) (more : List ℕ) (x y : Read Credentials) → Extends x more y → login_fits basis x ≡ true → login_fits basis y ≡ true
 fits-extends basis more (Read.Got l at rest) y e fits = rw e fits

@@ -1,11 +1,11 @@
 -- What each phase says of a record.
 use Rattle.std.proofs.Common.{ℕ, ◌≡◌, refl, Bool, true, false, cond, Option, Some, None, List, is_some}
 use Rattle.addr_pattern.specs.declared.host.Host.{Host}
-use Rattle.conf_model.specs.declared.protocol.Command.{Command}
+use Rattle.socks_grammar.specs.declared.protocol.Command.{Command}
 use Rattle.socks_machine.specs.declared.record.Record.{Record}
 use Rattle.socks_machine.specs.Decisions.{Opening, Lookup, Grant, opened, looked, granted, reached, came}
-use Rattle.conf_model.specs.Dialogue.{Outcome}
-use Rattle.conf_model.specs.Handshake.{Request, Split}
+use Rattle.socks_grammar.specs.Dialogue.{Outcome}
+use Rattle.socks_grammar.specs.Handshake.{Request, Split}
 use Rattle.socks_machine.specs.Phase.{Phase, phase_opened_in, phase_split_in, phase_asked_in, phase_named_in, phase_granted_in, phase_reached_in, phase_by_command, phase_connect}
 use Rattle.socks_machine.specs.PhaseFacts.{IsGoing, HasAsked, IsGranted, HasReached, PhaseFacts, PhaseSays}
 use Rattle.socks_machine.specs.View.{View}

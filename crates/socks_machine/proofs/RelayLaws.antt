@@ -4,7 +4,7 @@ use Rattle.std.proofs.lemmas.List.{append-nil}
 use Rattle.std.proofs.Math.Seq.{drop-append_seam}
 use Rattle.addr_pattern.specs.declared.endpoint.Endpoint.{Endpoint}
 use Rattle.socks_machine.specs.declared.cause.Cause.{Cause}
-use Rattle.conf_model.specs.declared.protocol.Command.{Command}
+use Rattle.socks_grammar.specs.declared.protocol.Command.{Command}
 use Rattle.socks_machine.specs.declared.record.Gram.{Gram}
 use Rattle.socks_machine.specs.declared.record.Record.{Record}
 use Rattle.socks_machine.specs.declared.world.TurnEvent.{TurnEvent}

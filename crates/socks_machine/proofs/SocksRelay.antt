@@ -3,26 +3,26 @@ use Rattle.std.proofs.Common.{sym, ℕ, ◌≡◌, ◌≤◌, ◌==◌, refl, Bo
 use Rattle.addr_pattern.specs.declared.endpoint.Endpoint.{Endpoint}
 use Rattle.addr_pattern.specs.declared.front.BadKind.{BadKind}
 use Rattle.socks_machine.specs.declared.cause.Cause.{Cause}
-use Rattle.conf_model.specs.declared.protocol.Command.{Command}
-use Rattle.conf_model.specs.declared.protocol.Method.{Method}
-use Rattle.conf_model.specs.declared.protocol.Version.{Version}
-use Rattle.conf_model.specs.declared.user.User.{User}
+use Rattle.socks_grammar.specs.declared.protocol.Command.{Command}
+use Rattle.socks_grammar.specs.declared.protocol.Method.{Method}
+use Rattle.socks_grammar.specs.declared.protocol.Version.{Version}
+use Rattle.socks_grammar.specs.declared.user.User.{User}
 use Rattle.socks_machine.specs.declared.record.Chosen.{Chosen}
 use Rattle.socks_machine.specs.declared.record.Record.{Record}
 use Rattle.socks_machine.specs.Basis.{Basis}
 use Rattle.socks_machine.specs.Calls.{Context}
 use Rattle.socks_machine.specs.Front.{Front}
-use Rattle.conf_model.specs.Grammar.{Read, Credentials, greeting, login, request4}
-use Rattle.conf_model.specs.Handshake.{Split, Request, split, split_request, split_login, split_greeted, offered}
+use Rattle.socks_grammar.specs.Grammar.{Read, Credentials, greeting, login, request4}
+use Rattle.socks_grammar.specs.Handshake.{Split, Request, split, split_request, split_login, split_greeted, offered}
 use Rattle.socks_machine.specs.Owed.{has_target}
 use Rattle.socks_machine.specs.Phase.{Phase, phase, relay_began, prelude_length}
 use Rattle.socks_machine.specs.PhaseFacts.{PhaseFacts, HasReached}
 use Rattle.socks_machine.specs.Relaying.{RelayFacts}
 use Rattle.socks_machine.specs.Socks.{socks_front}
-use Rattle.conf_model.specs.Stable.{Extends, SplitExtends}
+use Rattle.socks_grammar.specs.Stable.{Extends, SplitExtends}
 use Rattle.socks_machine.specs.Taking.{chosen_after, choose_from}
 use Rattle.socks_machine.specs.View.{view, proxy_of, asks_login, login_fits, login_fits_behind}
-use Rattle.conf_model.proofs.GrammarLaws.{greeting-stable, login-stable, split-extends}
+use Rattle.socks_grammar.proofs.GrammarLaws.{greeting-stable, login-stable, split-extends}
 use Rattle.socks_machine.proofs.PhaseFactsLaws.{phase-says}
 
 none-of : (k : Option Cause) → is_some k ≡ false → k ≡ None

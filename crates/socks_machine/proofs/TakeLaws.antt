@@ -3,20 +3,20 @@ use Rattle.std.proofs.Common.{sym, ℕ, ◌≡◌, refl, Bool, true, false, ◌&
 use Rattle.std.specs.List.{list_all}
 use Rattle.addr_pattern.specs.declared.endpoint.Endpoint.{Endpoint}
 use Rattle.socks_machine.specs.declared.cause.Cause.{Cause}
-use Rattle.conf_model.specs.declared.protocol.Method.{Method}
+use Rattle.socks_grammar.specs.declared.protocol.Method.{Method}
 use Rattle.socks_machine.specs.declared.record.Chosen.{Chosen}
 use Rattle.socks_machine.specs.declared.record.Record.{Record}
 use Rattle.socks_machine.specs.declared.world.Object.{Object}
 use Rattle.socks_machine.specs.Basis.{Basis}
-use Rattle.conf_model.specs.Grammar.{Read, greeting}
-use Rattle.conf_model.specs.Handshake.{offered, offered_by}
+use Rattle.socks_grammar.specs.Grammar.{Read, greeting}
+use Rattle.socks_grammar.specs.Handshake.{offered, offered_by}
 use Rattle.socks_machine.specs.InTurn.{Took, Takes, Takings}
 use Rattle.socks_machine.specs.Phase.{Phase, phase, client_payload}
 use Rattle.socks_machine.specs.Settle.{fix, first_cause, settled, cause_in}
-use Rattle.conf_model.specs.Stable.{Extends}
+use Rattle.socks_grammar.specs.Stable.{Extends}
 use Rattle.socks_machine.specs.Taking.{some_in, reads_target, reads_port, reads_client, of_generation, meet, choose_from, chosen_after, with_client_bytes, holds, pipe_size}
 use Rattle.socks_machine.specs.Equal.{object_eq}
-use Rattle.conf_model.proofs.GrammarLaws.{greeting-stable}
+use Rattle.socks_grammar.proofs.GrammarLaws.{greeting-stable}
 
 -- ---- tools
 

@@ -3,7 +3,7 @@ use Rattle.std.proofs.Common.{sym, ℕ, suc, ◌+◌, ◌≡◌, refl, Bool, tru
 use Rattle.std.proofs.lemmas.List.{append-nil}
 use Rattle.std.proofs.Math.Seq.{take-append_seam, drop-append_seam}
 use Rattle.std.specs.List.{list_all}
-use Rattle.conf_model.specs.declared.protocol.Method.{Method}
+use Rattle.socks_grammar.specs.declared.protocol.Method.{Method}
 use Rattle.socks_machine.specs.declared.record.Record.{Record}
 use Rattle.socks_machine.specs.declared.world.Outer.{Outer}
 use Rattle.socks_machine.specs.declared.world.NextMark.{NextMark}

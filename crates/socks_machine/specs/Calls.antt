@@ -3,8 +3,8 @@ use Rattle.std.specs.Prelude.{ℕ, ◌-◌, ◌^◌, Bool, true, false, if◌the
 use Rattle.addr_pattern.specs.declared.addr.Addr.{Addr}
 use Rattle.addr_pattern.specs.declared.endpoint.Endpoint.{Endpoint}
 use Rattle.addr_pattern.specs.declared.host.Host.{Host}
-use Rattle.conf_model.specs.declared.protocol.Command.{Command}
-use Rattle.conf_model.specs.declared.config.Config.{Config}
+use Rattle.socks_grammar.specs.declared.protocol.Command.{Command}
+use Rattle.conf_types.specs.declared.entries.Entries.{Entries}
 use Rattle.rule_list.specs.declared.facts.Facts.{Facts}
 use Rattle.rule_list.specs.declared.verdict.Verdict.{Verdict}
 use Rattle.socks_machine.specs.declared.cause.Cause.{Cause}
@@ -22,7 +22,7 @@ use Rattle.socks_machine.specs.declared.world.Outer.{Outer}
 use Rattle.socks_machine.specs.Datagrams.{between}
 use Rattle.socks_machine.specs.Decisions.{Grant, Lookup, looked}
 use Rattle.addr_pattern.specs.Equal.{same_family}
-use Rattle.conf_model.specs.Handshake.{Request}
+use Rattle.socks_grammar.specs.Handshake.{Request}
 use Rattle.socks_machine.specs.History.{Desked, at_open, at_grant, at_peer, at_close}
 use Rattle.socks_machine.specs.Basis.{Basis}
 use Rattle.socks_machine.specs.Phase.{Phase, is_udp}
@@ -36,7 +36,7 @@ use Rattle.socks_machine.specs.Taking.{is_right_peer}
 pub record Context : Type 0 where
   pub basis : Basis
   pub generation : ℕ
-  pub config : Config
+  pub config : Entries
   pub cap : ℕ
   pub h : List Line
   pub marks : List StopBy
@@ -174,7 +174,7 @@ call_grant s r q logged = call_grant_on s r (grant_line s r (grant_facts r q) (j
 -- ---- dial, door, port
 
 -- the first external address of the local endpoint's family, else the local endpoint's address
-abbrev pub outer_in : Option Config → Endpoint → Addr
+abbrev pub outer_in : Option Entries → Endpoint → Addr
 outer_in None local = local.addr
 outer_in (Some k) local = unwrap_or (find (same_family local.addr) k.externals) local.addr
 

@@ -3,14 +3,14 @@ use Rattle.std.specs.Prelude.{ℕ, Bool, true, false, not, ◌==◌, nat_le, if�
 use Rattle.addr_pattern.specs.declared.addr.Addr.{Addr}
 use Rattle.addr_pattern.specs.declared.endpoint.Endpoint.{Endpoint}
 use Rattle.addr_pattern.specs.declared.host.Host.{Host}
-use Rattle.conf_model.specs.declared.protocol.Command.{Command}
-use Rattle.conf_model.specs.declared.config.Config.{Config}
+use Rattle.socks_grammar.specs.declared.protocol.Command.{Command}
+use Rattle.conf_types.specs.declared.entries.Entries.{Entries}
 use Rattle.rule_list.specs.declared.facts.Facts.{Facts}
 use Rattle.socks_machine.specs.declared.record.Gram.{Gram}
 use Rattle.socks_machine.specs.declared.record.Record.{Record}
 use Rattle.socks_machine.specs.Decisions.{Grant, granted, reached_at}
 use Rattle.addr_pattern.specs.Equal.{addr_eq, endpoint_eq, same_family}
-use Rattle.conf_model.specs.Grammar.{Read, UdpHeader, udp_header, spelled_udp_header}
+use Rattle.socks_grammar.specs.Grammar.{Read, UdpHeader, udp_header, spelled_udp_header}
 use Rattle.socks_machine.specs.Basis.{Basis}
 use Rattle.rule_list.specs.Rules.{numbered, judge, is_pass}
 
@@ -39,7 +39,7 @@ asked_port port = if port == 0 then None else Some port
 
 -- ---- judging
 
-abbrev pub passes_in : Option Config → Facts → Bool
+abbrev pub passes_in : Option Entries → Facts → Bool
 passes_in None f = false
 passes_in (Some k) f = is_pass (judge k f)
 
@@ -57,28 +57,28 @@ between f command from to = record {
   name = None;
 }
 
-abbrev pub allowed : Option Config → Grant → Command → Endpoint → Endpoint → Bool
+abbrev pub allowed : Option Entries → Grant → Command → Endpoint → Endpoint → Bool
 allowed k g command from to = passes_in k (between g.facts command from to)
 
 -- ---- from the client
 
-abbrev pub judged_out : Option Config → Grant → Gram → Endpoint → List ℕ → Fate
+abbrev pub judged_out : Option Entries → Grant → Gram → Endpoint → List ℕ → Fate
 judged_out k g d to data' =
     if allowed k g Command.UdpAssociate d.peer to
     then Sent (record { peer = to; bytes = data'; generation = d.generation })
     else Dropped Rule
 
-abbrev pub out_to_addr : Option Config → Grant → Endpoint → Gram → UdpHeader → List ℕ → Addr → Fate
+abbrev pub out_to_addr : Option Entries → Grant → Endpoint → Gram → UdpHeader → List ℕ → Addr → Fate
 out_to_addr k g port d h data' a =
     if not (same_family a port.addr) then Dropped Header
     else (if not (h.frag == 0) then Dropped Frag
     else judged_out k g d (record { addr = a; port = h.port }) data')
 
-abbrev pub out_to_host : Option Config → Grant → Endpoint → Gram → UdpHeader → List ℕ → Host → Fate
+abbrev pub out_to_host : Option Entries → Grant → Endpoint → Gram → UdpHeader → List ℕ → Host → Fate
 out_to_host k g port d h data' (Host.Addr a) = out_to_addr k g port d h data' a
 out_to_host k g port d h data' (Host.Name n) = if h.frag == 0 then Dropped ByName else Dropped Frag
 
-abbrev pub out_with : Option Config → Grant → Endpoint → Gram → Read UdpHeader → Fate
+abbrev pub out_with : Option Entries → Grant → Endpoint → Gram → Read UdpHeader → Fate
 out_with k g port d (Read.Got h at rest) = out_to_host k g port d h rest h.host
 out_with k g port d _ = Dropped Header
 
@@ -87,7 +87,7 @@ out_with k g port d _ = Dropped Header
 abbrev pub within_length : Gram → Gram → Fate
 within_length d out = if nat_le (length out.bytes) 65507 then Sent out else Dropped TooLong
 
-abbrev pub in_to : Option Config → Grant → Gram → Endpoint → Fate
+abbrev pub in_to : Option Entries → Grant → Gram → Endpoint → Fate
 in_to k g d client =
     if allowed k g Command.UdpReply d.peer client
     then within_length d (record { peer = client; bytes = spelled_udp_header d.peer ++ d.bytes; generation = d.generation })
@@ -95,7 +95,7 @@ in_to k g d client =
 
 -- ---- each datagram, in the configuration of its generation, with the client's port as far as it is known by then
 
-abbrev pub fate : Option Config → Grant → Endpoint → Addr → Option ℕ → Gram → Fate
+abbrev pub fate : Option Entries → Grant → Endpoint → Addr → Option ℕ → Gram → Fate
 fate k g port client None d = Dropped Source
 fate k g port client (Some p) d =
     elim (endpoint_eq d.peer (record { addr = client; port = p })) [
@@ -103,7 +103,7 @@ fate k g port client (Some p) d =
       | false ↦ in_to k g d (record { addr = client; port = p })
     ]
 
-abbrev pub fates : List Config → Grant → Endpoint → Addr → Option ℕ → List Gram → List Fate
+abbrev pub fates : List Entries → Grant → Endpoint → Addr → Option ℕ → List Gram → List Fate
 fates pubs g port client known [] = []
 fates pubs g port client known (d ∷ ds) =
     fate (numbered pubs d.generation) g port client (learned client known d) d ∷ fates pubs g port client (learned client known d) ds

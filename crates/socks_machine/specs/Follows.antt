@@ -4,8 +4,9 @@ use Rattle.std.specs.Prelude.{ℕ, suc, ◌≡◌, ◌≢◌, ◌↔◌, ◌<◌
 use Rattle.std.specs.List.{list_any}
 use mathlib.Core.List.{IsPrefix}
 use Rattle.addr_pattern.specs.declared.endpoint.Endpoint.{Endpoint}
-use Rattle.conf_model.specs.declared.config.Config.{Config}
-use Rattle.conf_model.specs.declared.user.User.{User}
+use Rattle.conf_types.specs.declared.entries.Entries.{Entries}
+use Rattle.socks_grammar.specs.declared.user.User.{User}
+use Rattle.socks_machine.specs.declared.cause.Cause.{Cause}
 use Rattle.socks_machine.specs.declared.cause.StopBy.{StopBy}
 use Rattle.socks_machine.specs.declared.record.Gram.{Gram}
 use Rattle.socks_machine.specs.declared.record.Record.{Record}
@@ -41,7 +42,7 @@ OuterIs o (Phase.Seek name) outer = outer ≡ o.lookup
 OuterIs o (Phase.Reach g) outer = outer ≡ reached_as o g.facts.command
 OuterIs o p outer = ⊥
 
-pub record OuterFits (basis : Basis) (generation : ℕ) (config : Config) (o : Outside) (ev : TurnEvent) (r : Record) : Type 0 where
+pub record OuterFits (basis : Basis) (generation : ℕ) (config : Entries) (o : Outside) (ev : TurnEvent) (r : Record) : Type 0 where
   pub behind : Record
   pub taken' : taken basis generation config.methods ev r ≡ Some behind
   pub is : OuterIs o (phase basis behind) ev.outer
@@ -81,7 +82,7 @@ surroundings_after s e used = s
 
 -- the phase that is met behind all that is taken, but for the ends; in Relay fewer bytes of this side wait at the turn's end
 -- than a pipe holds
-pub record Meets (basis : Basis) (generation : ℕ) (config : Config) (ev : TurnEvent) (r : Record) (left : Option Record) (reads : Record → Phase → Bool) (waiting : Basis → Record → ℕ) : Type 0 where
+pub record Meets (basis : Basis) (generation : ℕ) (config : Entries) (ev : TurnEvent) (r : Record) (left : Option Record) (reads : Record → Phase → Bool) (waiting : Basis → Record → ℕ) : Type 0 where
   pub behind : Record
   pub taken' : taken basis generation config.methods (without_ends ev) r ≡ Some behind
   pub read' : IsTrue (reads behind (phase basis behind))
@@ -103,7 +104,7 @@ EndFits (Some x) read Comes = IsTrue read → Comes
 
 -- ---- turns
 
-pub record Allows (s : Surroundings) (w : World) (generation : ℕ) (config : Config) (o : Outside) (ev : TurnEvent) (used : List Failing) (r : Record) : Type 0 where
+pub record Allows (s : Surroundings) (w : World) (generation : ℕ) (config : Entries) (o : Outside) (ev : TurnEvent) (used : List Failing) (r : Record) : Type 0 where
   pub moment : ev.now ≡ s.now
   pub stop' : ev.stop ≡ last_mark w.marks
   pub ends : ev.next ≢ NextMark.Going
@@ -130,7 +131,7 @@ pub record IsTurnOf (s : Surroundings) (w : World) (worker a : ℕ) (ev : TurnEv
   pub number : ev.number ≡ a
   pub generation : ℕ
   pub saw : slice_get w.seen worker ≡ Some generation
-  pub config : Config
+  pub config : Entries
   pub published : numbered w.pubs generation ≡ Some config
   pub outside : Outside
   pub there : numbered s.outsides a ≡ Some outside
@@ -193,9 +194,12 @@ abbrev pub begins : List ScriptLine → World
 begins lines = start (users_of lines) (opens_of lines) (workers_of lines)
 
 -- What a replay has written where it was done: the transcript of events that the script allows, whose run leaves this world.
+-- In it no association ended for want of memory, and no log failed.
 pub record IsReplay (lines : List ScriptLine) (world : World) (out : List ℕ) : Type 0 where
   pub events : List Event
   pub rounds : List Event
   pub follows : Follows first_surroundings (begins lines) lines events rounds
   pub ran : run (users_of lines) (opens_of lines) (workers_of lines) (events ++ rounds) ≡ Some world
   pub out' : out ≡ transcript (begins lines) events rounds
+  pub no_memory_cause : All (λ (r : Record). r.cause ≢ Some Cause.Memory) world.records
+  pub no_log_mark : last_mark world.marks ≢ Some StopBy.Log

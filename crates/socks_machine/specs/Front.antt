@@ -1,14 +1,14 @@
 -- What a front of the machine is: how it reads a client's input, and what it answers. SOCKS is one.
 use Rattle.std.specs.Prelude.{ℕ, Bool, Option, List}
 use Rattle.addr_pattern.specs.declared.endpoint.Endpoint.{Endpoint}
-use Rattle.conf_model.specs.declared.protocol.Command.{Command}
-use Rattle.conf_model.specs.declared.route.Login.{Login}
-use Rattle.conf_model.specs.declared.user.User.{User}
-use Rattle.conf_model.specs.declared.protocol.Version.{Version}
+use Rattle.socks_grammar.specs.declared.protocol.Command.{Command}
+use Rattle.socks_grammar.specs.declared.login.Login.{Login}
+use Rattle.socks_grammar.specs.declared.user.User.{User}
+use Rattle.socks_grammar.specs.declared.protocol.Version.{Version}
 use Rattle.socks_machine.specs.declared.cause.Cause.{Cause}
 use Rattle.socks_machine.specs.declared.record.Chosen.{Chosen}
 use Rattle.socks_machine.specs.declared.record.Decision.{Decision}
-use Rattle.conf_model.specs.Handshake.{Split}
+use Rattle.socks_grammar.specs.Handshake.{Split}
 
 pub record Proxy : Type 0 where
   pub at : Endpoint

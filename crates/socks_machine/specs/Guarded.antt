@@ -11,13 +11,13 @@ use Rattle.socks_machine.specs.declared.world.World.{World}
 use Rattle.socks_machine.specs.Calls.{grant_facts, peer_facts, reach_to}
 use Rattle.socks_machine.specs.Datagrams.{owed_datagrams}
 use Rattle.socks_machine.specs.Decisions.{Grant, Reaching, Coming, granted, looked, reached, came, is_opened}
-use Rattle.conf_model.specs.Handshake.{Request, Split}
+use Rattle.socks_grammar.specs.Handshake.{Request, Split}
 use Rattle.socks_machine.specs.Owed.{owed_to_client, owed_to_target}
 use Rattle.socks_machine.specs.Basis.{Basis}
 use Rattle.socks_machine.specs.View.{split_of}
 use Rattle.rule_list.specs.Rules.{numbered, judge, is_pass}
 use Rattle.socks_machine.specs.Step.{basis_of}
-use Rattle.conf_model.specs.declared.config.Config.{Config}
+use Rattle.conf_types.specs.declared.entries.Entries.{Entries}
 
 abbrev pub place_of : Decision → ℕ
 place_of (Decision.Opened g rule refused) = 0
@@ -33,7 +33,7 @@ is_rising (n ∷ m ∷ ms) = nat_lt n m && is_rising (m ∷ ms)
 
 -- in one published generation the rules pass these facts, by this verdict
 pub record PassesIn (basis : Basis) (generation : ℕ) (facts : Facts) (verdict : Verdict) : Type 0 where
-  pub config : Config
+  pub config : Entries
   pub published : numbered basis.pubs generation ≡ Some config
   pub judged : verdict ≡ judge config facts
   pub passed : IsTrue (is_pass verdict)

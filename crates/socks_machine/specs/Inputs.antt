@@ -1,9 +1,9 @@
 -- Which input of a client is served, over the users: any, but for a request of another command than CONNECT (RFC 1928, section 4, and
 -- the SOCKS 4 memo).
 use Rattle.std.specs.Prelude.{ℕ, Bool, true, false, ◌&&◌, Some, List}
-use Rattle.conf_model.specs.declared.protocol.Command.{Command}
-use Rattle.conf_model.specs.declared.user.User.{User}
-use Rattle.conf_model.specs.Handshake.{Request, Split, split}
+use Rattle.socks_grammar.specs.declared.protocol.Command.{Command}
+use Rattle.socks_grammar.specs.declared.user.User.{User}
+use Rattle.socks_grammar.specs.Handshake.{Request, Split, split}
 
 abbrev pub is_connect_command : Command → Bool
 is_connect_command Command.Connect = true

@@ -7,11 +7,11 @@ use Rattle.socks_machine.specs.declared.world.World.{World}
 use Rattle.socks_machine.specs.Calls.{Context, keep, call_grant, is_calling}
 use Rattle.socks_machine.specs.Fine.{begun_event}
 use Rattle.socks_machine.specs.Socks.{socks}
-use Rattle.conf_model.specs.declared.config.Config.{Config}
-use Rattle.conf_model.specs.declared.user.User.{User}
+use Rattle.conf_types.specs.declared.entries.Entries.{Entries}
+use Rattle.socks_grammar.specs.declared.user.User.{User}
 use Rattle.socks_machine.specs.Phase.{Phase, phase, began}
 use Rattle.socks_machine.specs.Decisions.{granted}
-use Rattle.conf_model.specs.declared.protocol.Method.{Method}
+use Rattle.socks_grammar.specs.declared.protocol.Method.{Method}
 use Rattle.socks_machine.specs.declared.cause.Cause.{Cause}
 use mathlib.Core.List.{IsPrefix}
 use Rattle.socks_machine.specs.Settle.{settled}
@@ -19,7 +19,7 @@ use Rattle.socks_machine.specs.Step.{steps}
 use Rattle.socks_machine.specs.Taking.{with_client_bytes}
 use Rattle.socks_machine.specs.Turn.{ordinary, marked, aged}
 use Rattle.socks_machine.specs.Owed.{owed_to_client, owed_to_target}
-use Rattle.conf_model.specs.Handshake.{Request}
+use Rattle.socks_grammar.specs.Handshake.{Request}
 use Rattle.socks_machine.specs.Taking.{taken}
 use Rattle.addr_pattern.specs.declared.endpoint.Endpoint.{Endpoint}
 use Rattle.socks_machine.specs.declared.record.Gram.{Gram}
@@ -81,7 +81,7 @@ Writing = (s : Context) (old r : Record) (worker number now n : ℕ) (x : Readin
 
 -- what was owed to a client that talks stays owed, whatever it says next and whatever cause that fixes
 abbrev pub TalkOwes : Type 0
-TalkOwes = (users : List User) (pubs : List Config) (generation : ℕ) (methods : List Method) (bytes : List ℕ) (r : Record) (cause : Option Cause)
+TalkOwes = (users : List User) (pubs : List Entries) (generation : ℕ) (methods : List Method) (bytes : List ℕ) (r : Record) (cause : Option Cause)
     → granted r.decisions ≡ None → r.cause ≡ None
     → IsPrefix (owed_to_client (socks users pubs) r) (owed_to_client (socks users pubs) (record (with_client_bytes generation methods bytes r) { cause = cause }))
 

@@ -1,7 +1,7 @@
 -- What is owed to the client and to the target, from a record.
 use Rattle.std.specs.Prelude.{ℕ, ◌-◌, Bool, true, false, ◌&&◌, if◌then◌else◌, Option, Some, None, List, [], ◌++◌, length, drop, is_some, is_none}
 use Rattle.addr_pattern.specs.declared.endpoint.Endpoint.{Endpoint}
-use Rattle.conf_model.specs.declared.protocol.Command.{Command}
+use Rattle.socks_grammar.specs.declared.protocol.Command.{Command}
 use Rattle.socks_machine.specs.declared.cause.Cause.{Cause}
 use Rattle.socks_machine.specs.declared.record.Record.{Record}
 use Rattle.socks_machine.specs.Decisions.{Grant, granted, reached_at, peer_let_in}

@@ -2,12 +2,12 @@
 use Rattle.std.specs.Prelude.{ℕ, Bool, true, false, ◌&&◌, ◌||◌, if◌then◌else◌, Option, Some, None, List, drop, is_some}
 use Rattle.addr_pattern.specs.declared.endpoint.Endpoint.{Endpoint}
 use Rattle.addr_pattern.specs.declared.host.Host.{Host}
-use Rattle.conf_model.specs.declared.protocol.Command.{Command}
+use Rattle.socks_grammar.specs.declared.protocol.Command.{Command}
 use Rattle.socks_machine.specs.declared.record.Record.{Record}
 use Rattle.socks_machine.specs.Decisions.{Opening, Lookup, Grant, opened, looked, granted, reached, reached_at, came, peer_let_in}
 use Rattle.socks_machine.specs.Basis.{Basis}
-use Rattle.conf_model.specs.Dialogue.{Outcome}
-use Rattle.conf_model.specs.Handshake.{Request, Split}
+use Rattle.socks_grammar.specs.Dialogue.{Outcome}
+use Rattle.socks_grammar.specs.Handshake.{Request, Split}
 use Rattle.socks_machine.specs.View.{View, view, length_of}
 
 pub data Phase : Type 0 where

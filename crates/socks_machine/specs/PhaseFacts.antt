@@ -3,7 +3,7 @@ use Rattle.std.specs.Prelude.{ℕ, ◌≡◌, true, false, Some, None, is_some}
 use Rattle.addr_pattern.specs.declared.host.Host.{Host}
 use Rattle.socks_machine.specs.declared.record.Record.{Record}
 use Rattle.socks_machine.specs.Decisions.{Opening, Grant, opened, granted, reached}
-use Rattle.conf_model.specs.Handshake.{Request, Split}
+use Rattle.socks_grammar.specs.Handshake.{Request, Split}
 use Rattle.socks_machine.specs.Phase.{Phase, phase_in}
 use Rattle.socks_machine.specs.View.{View}
 

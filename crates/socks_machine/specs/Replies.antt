@@ -4,12 +4,12 @@ use Rattle.std.specs.List.{list_any}
 use Rattle.std.specs.Int.{w16, w32, to_be_bytes}
 use Rattle.addr_pattern.specs.declared.addr.Addr.{Addr}
 use Rattle.addr_pattern.specs.declared.endpoint.Endpoint.{Endpoint}
-use Rattle.conf_model.specs.declared.protocol.Command.{Command}
-use Rattle.conf_model.specs.declared.protocol.Method.{Method}
-use Rattle.conf_model.specs.declared.protocol.Version.{Version}
-use Rattle.conf_model.specs.declared.protocol.Stage.{Stage}
+use Rattle.socks_grammar.specs.declared.protocol.Command.{Command}
+use Rattle.socks_grammar.specs.declared.protocol.Method.{Method}
+use Rattle.socks_grammar.specs.declared.protocol.Version.{Version}
+use Rattle.socks_grammar.specs.declared.protocol.Stage.{Stage}
 use Rattle.socks_machine.specs.declared.cause.Cause.{Cause}
-use Rattle.conf_model.specs.Grammar.{method_byte, spelled_endpoint}
+use Rattle.socks_grammar.specs.Grammar.{method_byte, spelled_endpoint}
 
 -- the code of a method (RFC 1928, section 3)
 abbrev pub method_code : Method → ℕ

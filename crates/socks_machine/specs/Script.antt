@@ -3,7 +3,7 @@ use Rattle.std.specs.Prelude.{ℕ, zero, suc, ◌+◌, Bool, true, false, ◌&&�
 use Rattle.std.specs.List.{list_any, list_all}
 use Rattle.addr_pattern.specs.declared.endpoint.Endpoint.{Endpoint}
 use Rattle.addr_pattern.specs.declared.addr.Addr.{Addr}
-use Rattle.conf_model.specs.declared.config.Config.{Config}
+use Rattle.conf_types.specs.declared.entries.Entries.{Entries}
 use Rattle.socks_machine.specs.declared.cause.StopBy.{StopBy}
 use Rattle.socks_machine.specs.declared.record.Gram.{Gram}
 use Rattle.socks_machine.specs.declared.record.Record.{Record}
@@ -22,7 +22,7 @@ use Rattle.rule_list.specs.Rules.{numbered}
 use Rattle.socks_machine.specs.Step.{basis_of, set_numbered, step}
 use Rattle.socks_machine.specs.Taking.{◌>>=◌, holds, some_in, pipe_size, taken, reads_target, reads_client}
 use Rattle.socks_machine.specs.Owed.{waiting_for_target, waiting_for_client}
-use Rattle.conf_model.specs.declared.protocol.Command.{Command}
+use Rattle.socks_grammar.specs.declared.protocol.Command.{Command}
 use Rattle.socks_machine.specs.Turn.{quantum}
 use Rattle.socks_machine.specs.declared.script.CallKind.{CallKind}
 use Rattle.socks_machine.specs.declared.script.ScriptLine.{ScriptLine}
@@ -214,7 +214,7 @@ pipe_has_room basis waiting _ _ = true
 abbrev pub end_fits : TurnEvent → Bool → Bool → Bool
 end_fits ev read comes = if is_none ev.fault then iff read comes else (not read || comes)
 
-abbrev pub ends_are_read : Basis → ℕ → Config → Outside → TurnEvent → Record → Option Record → Bool
+abbrev pub ends_are_read : Basis → ℕ → Entries → Outside → TurnEvent → Record → Option Record → Bool
 ends_are_read basis generation config o ev r left =
     end_fits ev ev.end_c (o.end_c && not r.end_c && (length r.c + length ev.c == length o.c) && nat_lt (length ev.c) quantum
     && not (read_failed Object.Client (fault_in o ev))
@@ -258,7 +258,7 @@ outer_fits basis o outer (Some r) = outer_fits_in o outer (phase basis r)
 abbrev pub rooms_are : Outside → TurnEvent → Bool
 rooms_are o ev = (not (holds Object.Client o.no_room) || (ev.sent_c == 0)) && (not (holds Object.Target o.no_room) || (ev.sent_t == 0))
 
-abbrev pub allows : Surroundings → World → ℕ → Config → Outside → TurnEvent → Record → Bool
+abbrev pub allows : Surroundings → World → ℕ → Entries → Outside → TurnEvent → Record → Bool
 allows s w generation config o ev r =
     (ev.now == s.now) && stop_is ev.stop (last_mark w.marks) && not (mark_eq ev.next NextMark.Going)
     && starts_with (r.c ++ ev.c) o.c && starts_with (r.t ++ ev.t) o.t && all_grams (r.grams ++ ev.grams) o.grams
@@ -269,7 +269,7 @@ allows s w generation config o ev r =
 abbrev pub allows_in : Surroundings → World → TurnEvent → Option ℕ → Option Outside → Option Record → Bool
 allows_in s w ev (Some generation) (Some o) (Some r) = by_config (numbered w.pubs generation)
   where
-    by_config : Option Config → Bool
+    by_config : Option Entries → Bool
     by_config None = false
     by_config (Some config) = allows s w generation config o ev r
 allows_in s w ev _ _ _ = false
@@ -326,7 +326,7 @@ going_after None = []
 going_after (Some w) = going w
 
 -- behind the last line worker 1 sees, if anything was published, and the rounds begin
-abbrev pub closing : Surroundings → World → List Config → List Event → Bool
+abbrev pub closing : Surroundings → World → List Entries → List Event → Bool
 closing s w [] [] = true
 closing s w [] (e ∷ es) = false
 closing s w (k ∷ ks) (Event.See worker generation ∷ es) =

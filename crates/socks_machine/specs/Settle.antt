@@ -3,8 +3,8 @@ use Rattle.std.specs.Prelude.{ℕ, Bool, true, false, ◌&&◌, if◌then◌else
 use Rattle.addr_pattern.specs.declared.front.BadKind.{BadKind}
 use Rattle.socks_machine.specs.declared.cause.Cause.{Cause}
 use Rattle.socks_machine.specs.declared.record.Record.{Record}
-use Rattle.conf_model.specs.Dialogue.{Outcome}
-use Rattle.conf_model.specs.Handshake.{Split}
+use Rattle.socks_grammar.specs.Dialogue.{Outcome}
+use Rattle.socks_grammar.specs.Handshake.{Split}
 use Rattle.socks_machine.specs.Owed.{pending_to_client, pending_to_target}
 use Rattle.socks_machine.specs.Basis.{Basis}
 use Rattle.socks_machine.specs.Phase.{Phase, phase}

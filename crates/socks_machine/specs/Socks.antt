@@ -2,18 +2,18 @@
 use Rattle.std.specs.Prelude.{ℕ, Bool, true, false, ◌&&◌, ◌==◌, if◌then◌else◌, Option, Some, None, List, [], ◌++◌, is_some, is_none}
 use Rattle.addr_pattern.specs.declared.endpoint.Endpoint.{Endpoint}
 use Rattle.addr_pattern.specs.declared.host.Host.{Host}
-use Rattle.conf_model.specs.declared.protocol.Command.{Command}
-use Rattle.conf_model.specs.declared.config.Config.{Config}
-use Rattle.conf_model.specs.declared.user.User.{User}
-use Rattle.conf_model.specs.declared.protocol.Version.{Version}
+use Rattle.socks_grammar.specs.declared.protocol.Command.{Command}
+use Rattle.conf_types.specs.declared.entries.Entries.{Entries}
+use Rattle.socks_grammar.specs.declared.user.User.{User}
+use Rattle.socks_grammar.specs.declared.protocol.Version.{Version}
 use Rattle.socks_machine.specs.declared.cause.Cause.{Cause}
 use Rattle.socks_machine.specs.declared.record.Chosen.{Chosen}
 use Rattle.socks_machine.specs.declared.record.Decision.{Decision}
 use Rattle.socks_machine.specs.Basis.{Basis}
 use Rattle.socks_machine.specs.Decisions.{granted, looked}
-use Rattle.conf_model.specs.Equal.{version_eq}
+use Rattle.socks_grammar.specs.Equal.{version_eq}
 use Rattle.socks_machine.specs.Front.{Front, Proxy}
-use Rattle.conf_model.specs.Handshake.{Split, split, version_of, greeting_length}
+use Rattle.socks_grammar.specs.Handshake.{Split, split, version_of, greeting_length}
 use Rattle.socks_machine.specs.Replies.{method_reply, login_reply, granted_reply, refusal}
 use Rattle.socks_machine.specs.View.{asks_login}
 
@@ -59,5 +59,5 @@ socks_front = record {
       (record { in_login = is_in_login chosen c cause; proxy5 = is_proxy5 proxy; granting_udp = is_granting_udp ds s }) cause;
 }
 
-abbrev pub socks : List User → List Config → Basis
+abbrev pub socks : List User → List Entries → Basis
 socks users pubs = record { front = socks_front; users = users; pubs = pubs }

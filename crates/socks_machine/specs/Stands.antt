@@ -2,7 +2,7 @@
 use Rattle.std.specs.Prelude.{ℕ, ◌≡◌, Bool, true, false, ◌&&◌, ◌||◌, not, IsTrue, if◌then◌else◌, Option, Some, None, List, [], ◌∷◌, ◌++◌, take, drop, map, IfSome, is_some, is_none, option_map}
 use Rattle.addr_pattern.specs.declared.addr.Addr.{Addr}
 use Rattle.addr_pattern.specs.declared.endpoint.Endpoint.{Endpoint}
-use Rattle.conf_model.specs.declared.route.Via.{Via}
+use Rattle.conf_types.specs.declared.route.Via.{Via}
 use Rattle.socks_machine.specs.declared.cause.Cause.{Cause}
 use Rattle.socks_machine.specs.declared.record.Chosen.{Chosen}
 use Rattle.socks_machine.specs.declared.record.Decision.{Decision}
@@ -11,8 +11,8 @@ use Rattle.socks_machine.specs.declared.record.Record.{Record}
 use Rattle.socks_machine.specs.Calls.{took, sent, outer_addr}
 use Rattle.socks_machine.specs.Datagrams.{Reason, drops, owed_datagrams, learned, asked_port}
 use Rattle.socks_machine.specs.Decisions.{Grant, granted, reached_at}
-use Rattle.conf_model.specs.Dialogue.{Outcome}
-use Rattle.conf_model.specs.Handshake.{Split}
+use Rattle.socks_grammar.specs.Dialogue.{Outcome}
+use Rattle.socks_grammar.specs.Handshake.{Split}
 use Rattle.socks_machine.specs.Owed.{owed_to_client, owed_to_target, pending_to_target}
 use Rattle.socks_machine.specs.Basis.{Basis}
 use Rattle.socks_machine.specs.Phase.{Phase, phase, relay_began, is_udp, replies_length}

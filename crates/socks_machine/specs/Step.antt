@@ -2,8 +2,8 @@
 use Rattle.std.specs.Prelude.{ℕ, zero, suc, ◌+◌, Bool, true, false, ◌&&◌, not, ◌==◌, nat_lt, nat_le, Option, Some, None, List, [], ◌∷◌, ◌++◌, length, replicate, slice_get, slice_set}
 use Rattle.std.specs.List.{list_any}
 use Rattle.addr_pattern.specs.declared.endpoint.Endpoint.{Endpoint}
-use Rattle.conf_model.specs.declared.config.Config.{Config}
-use Rattle.conf_model.specs.declared.user.User.{User}
+use Rattle.conf_types.specs.declared.entries.Entries.{Entries}
+use Rattle.socks_grammar.specs.declared.user.User.{User}
 use Rattle.socks_machine.specs.declared.cause.StopBy.{StopBy}
 use Rattle.socks_machine.specs.declared.record.Record.{Record}
 use Rattle.socks_machine.specs.declared.world.NextMark.{NextMark}
@@ -68,7 +68,7 @@ abbrev pub seen_by : World → ℕ → ℕ → ℕ → Option World
 seen_by w worker generation before =
     when (nat_le 1 generation && nat_le before generation && nat_le generation (length w.pubs)) (record w { seen = slice_set w.seen worker generation })
 
-abbrev pub context_of : World → ℕ → Config → Context
+abbrev pub context_of : World → ℕ → Entries → Context
 context_of w generation config = record {
   basis = basis_of w;
   generation = generation;

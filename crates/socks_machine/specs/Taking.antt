@@ -2,7 +2,7 @@
 use Rattle.std.specs.Prelude.{ℕ, ◌+◌, ◌-◌, Bool, true, false, ◌&&◌, ◌||◌, not, ◌==◌, nat_lt, nat_le, if◌then◌else◌, Option, Some, None, List, [], ◌∷◌, ◌++◌, length, take}
 use Rattle.std.specs.List.{list_any, list_all}
 use Rattle.addr_pattern.specs.declared.endpoint.Endpoint.{Endpoint}
-use Rattle.conf_model.specs.declared.protocol.Method.{Method}
+use Rattle.socks_grammar.specs.declared.protocol.Method.{Method}
 use Rattle.socks_machine.specs.declared.cause.Cause.{Cause}
 use Rattle.socks_machine.specs.declared.record.Chosen.{Chosen}
 use Rattle.socks_machine.specs.declared.record.Gram.{Gram}
@@ -13,7 +13,7 @@ use Rattle.socks_machine.specs.Datagrams.{owed_for}
 use Rattle.socks_machine.specs.Decisions.{Grant}
 use Rattle.addr_pattern.specs.Equal.{addr_eq, is_unspecified}
 use Rattle.socks_machine.specs.Equal.{object_eq}
-use Rattle.conf_model.specs.Handshake.{offered}
+use Rattle.socks_grammar.specs.Handshake.{offered}
 use Rattle.socks_machine.specs.Basis.{Basis}
 use Rattle.socks_machine.specs.Phase.{Phase, phase, client_payload}
 use Rattle.socks_machine.specs.Replies.{choose}

@@ -4,9 +4,9 @@ use Rattle.std.specs.List.{list_any}
 use Rattle.addr_pattern.specs.declared.addr.Addr.{Addr}
 use mathlib.Core.List.{IsPrefix}
 use Rattle.addr_pattern.specs.declared.endpoint.Endpoint.{Endpoint}
-use Rattle.conf_model.specs.declared.protocol.Command.{Command}
-use Rattle.conf_model.specs.declared.user.User.{User}
-use Rattle.conf_model.specs.declared.protocol.Version.{Version}
+use Rattle.socks_grammar.specs.declared.protocol.Command.{Command}
+use Rattle.socks_grammar.specs.declared.user.User.{User}
+use Rattle.socks_grammar.specs.declared.protocol.Version.{Version}
 use Rattle.socks_machine.specs.declared.cause.Cause.{Cause}
 use Rattle.socks_machine.specs.declared.cause.StopBy.{StopBy}
 use Rattle.socks_machine.specs.declared.fine.FineStep.{FineStep}
@@ -25,11 +25,11 @@ use Rattle.socks_machine.specs.declared.world.World.{World}
 use Rattle.socks_machine.specs.Basis.{Basis}
 use Rattle.socks_machine.specs.Calls.{Context, TurnResult, sent, took, is_connect}
 use Rattle.socks_machine.specs.Decisions.{Grant, granted}
-use Rattle.conf_model.specs.Dialogue.{Wish, Outcome, outcome, said}
+use Rattle.socks_grammar.specs.Dialogue.{Wish, Outcome, outcome, said}
 use Rattle.socks_machine.specs.Fine.{Coarse, Fine, coarse, fine_steps, fine_start, Hand, hand_of}
 use Rattle.socks_machine.specs.Front.{Proxy}
 use Rattle.socks_machine.specs.Guarded.{Guarded, IsGuarded}
-use Rattle.conf_model.specs.Handshake.{Split}
+use Rattle.socks_grammar.specs.Handshake.{Split}
 use Rattle.socks_machine.specs.History.{Stand, stand_of, is_live, opened_numbers, Desked, at_open, at_grant, at_peer, at_close, is_log, last_mark}
 use Rattle.socks_machine.specs.LogText.{log_text}
 use Rattle.socks_machine.specs.Phase.{client_payload, is_udp}

@@ -1,8 +1,8 @@
 -- One turn of a worker on an association: what it takes, its one outer call, what it sends, and its answer.
 use Rattle.std.specs.Prelude.{ℕ, zero, suc, ◌+◌, ◌-◌, Bool, true, false, ◌&&◌, ◌||◌, not, ◌==◌, nat_lt, nat_le, if◌then◌else◌, Option, Some, None, List, [], ◌∷◌, ◌++◌, length, take, drop, is_some, is_none}
 use Rattle.std.specs.List.{list_any}
-use Rattle.conf_model.specs.declared.protocol.Command.{Command}
-use Rattle.conf_model.specs.declared.config.Config.{Config}
+use Rattle.socks_grammar.specs.declared.protocol.Command.{Command}
+use Rattle.conf_types.specs.declared.entries.Entries.{Entries}
 use Rattle.socks_machine.specs.declared.cause.Cause.{Cause}
 use Rattle.socks_machine.specs.declared.cause.StopBy.{StopBy}
 use Rattle.socks_machine.specs.declared.record.Gram.{Gram}
@@ -154,10 +154,10 @@ rests basis ev r = not (took_quantum ev) && rests_in basis ev r (phase basis r)
 
 -- ---- the limits of time
 
-abbrev pub limit : Basis → Config → Record → ℕ
+abbrev pub limit : Basis → Entries → Record → ℕ
 limit basis k r = if began basis r then k.io else k.negotiate
 
-abbrev pub is_late : Basis → Config → ℕ → Record → Bool
+abbrev pub is_late : Basis → Entries → ℕ → Record → Bool
 is_late basis k now r = not (limit basis k r == 0) && nat_le (limit basis k r) (now - r.since)
 
 -- ---- the close

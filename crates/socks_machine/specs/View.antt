@@ -2,19 +2,19 @@
 use Rattle.std.specs.Prelude.{ℕ, Bool, true, false, ◌==◌, Option, Some, None, List, [], option_map, option_and_then}
 use Rattle.addr_pattern.specs.declared.endpoint.Endpoint.{Endpoint}
 use Rattle.addr_pattern.specs.declared.host.Host.{Host}
-use Rattle.conf_model.specs.declared.config.Config.{Config}
-use Rattle.conf_model.specs.declared.route.Via.{Via}
+use Rattle.conf_types.specs.declared.entries.Entries.{Entries}
+use Rattle.conf_types.specs.declared.route.Via.{Via}
 use Rattle.socks_machine.specs.declared.record.Chosen.{Chosen}
 use Rattle.socks_machine.specs.declared.record.Record.{Record}
 use Rattle.socks_machine.specs.Basis.{Basis}
 use Rattle.socks_machine.specs.Datagrams.{Fate, fates_of}
 use Rattle.socks_machine.specs.Decisions.{Grant, granted}
-use Rattle.conf_model.specs.Dialogue.{Wish, Outcome, outcome, said}
-use Rattle.conf_model.specs.Grammar.{Read, Credentials, greeting, login}
+use Rattle.socks_grammar.specs.Dialogue.{Wish, Outcome, outcome, said}
+use Rattle.socks_grammar.specs.Grammar.{Read, Credentials, greeting, login}
 use Rattle.socks_machine.specs.Front.{Front, Proxy}
-use Rattle.conf_model.specs.Handshake.{Split}
+use Rattle.socks_grammar.specs.Handshake.{Split}
 use Rattle.rule_list.specs.Rules.{numbered, via_of}
-use Rattle.conf_model.specs.Users.{user_fits}
+use Rattle.socks_grammar.specs.Users.{user_fits}
 
 -- ---- the client's input
 
@@ -47,7 +47,7 @@ abbrev pub proxy_of_via : Via → Option Proxy
 proxy_of_via Via.Direct = None
 proxy_of_via (Via.Proxy at version login) = Some (record { at = at; version = version; login = login })
 
-abbrev pub proxy_in : Option ℕ → Option Config → Option Proxy
+abbrev pub proxy_in : Option ℕ → Option Entries → Option Proxy
 proxy_in route None = None
 proxy_in route (Some k) = proxy_of_via (via_of k route)
 

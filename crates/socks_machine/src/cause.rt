@@ -1,6 +1,6 @@
 use addr_pattern::{Addr, Endpoint};
-use conf_model::Stage;
 use rule_list::Verdict;
+use socks_grammar::Stage;
 
 /// One of the two lists of rules.
 #[derive(Clone, Copy, PartialEq, Eq, Debug)]

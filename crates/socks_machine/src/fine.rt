@@ -1,8 +1,9 @@
 use crate::cause::StopBy;
 use crate::world::Object;
 use addr_pattern::{Addr, Endpoint};
-use conf_model::{Config, User};
-use conf_text::{List, Text};
+use conf_types::Config;
+use lists::{List, Text};
+use socks_grammar::User;
 
 /// One call on a link, a door, a port or the net, with its outcome.
 #[derive(Drop)]

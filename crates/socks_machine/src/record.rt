@@ -1,6 +1,6 @@
 use crate::cause::Cause;
 use addr_pattern::{Addr, Endpoint, Name};
-use conf_text::{List, Text};
+use lists::{List, Text};
 use rule_list::{Facts, Verdict};
 
 /// The method that was answered to the greeting.

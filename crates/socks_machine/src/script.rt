@@ -1,7 +1,8 @@
 use crate::world::{Object, Outer};
 use addr_pattern::Endpoint;
-use conf_model::{Config, User};
-use conf_text::{List, Text};
+use conf_types::Config;
+use lists::{List, Text};
+use socks_grammar::User;
 
 /// A kind of call that a script can make fail. A call of a door is an accept; of a port a receive (`Reading`) or a send
 /// (`Writing`).

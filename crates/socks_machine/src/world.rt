@@ -5,8 +5,9 @@ use crate::cause::{Cause, StopBy};
 use crate::lines::Line;
 use crate::record::{Gram, Record};
 use addr_pattern::{Addr, Endpoint};
-use conf_model::{Config, User};
-use conf_text::{List, Text};
+use conf_types::Config;
+use lists::{List, Text};
+use socks_grammar::User;
 
 /// Something outside that is read or written.
 #[derive(Clone, Copy, PartialEq, Eq, Debug)]

@@ -3,7 +3,7 @@ use Rattle.std.proofs.Common.{ℕ, ◌≡◌, ◌≤◌, ◌+◌, false, ◌==�
 use Rattle.std.proofs.lemmas.Bool.Decides.{nat_tests}
 use Rattle.addr_pattern.specs.Cuts.{Lacks, CutsFirst}
 use Rattle.addr_pattern.proofs.Cutting.{parts-cut, parts-lacks}
-use Rattle.conf_model.specs.declared.user.User.{User}
+use Rattle.socks_grammar.specs.declared.user.User.{User}
 use Rattle.std.specs.Result.{IsErrAnd}
 use Rattle.user_login.specs.declared.fault.UsersFault.{UsersFault}
 use Rattle.user_login.specs.declared.fault.UsersKind.{UsersKind}

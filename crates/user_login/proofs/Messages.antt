@@ -2,7 +2,7 @@
 use Rattle.std.proofs.Common.{ℕ, zero, suc, ◌≡◌, ◌<◌, ◌≤◌, ◌+◌, ◌-◌, false, ◌==◌, List, [], ◌∷◌, ◌++◌, length, take, drop, refl, sym, ap, ◌∙◌, add-zero, append_assoc, length-append, arith}
 use Rattle.std.proofs.lemmas.List.{drop-drop, length-drop, take_all}
 use Rattle.addr_pattern.specs.declared.front.BadKind.{BadKind}
-use Rattle.conf_model.specs.Grammar.{Read, Reader, Credentials, ◌>>=◌, and_then, done, any_byte, any_bytes, login, spelled_login}
+use Rattle.socks_grammar.specs.Grammar.{Read, Reader, Credentials, ◌>>=◌, and_then, done, any_byte, any_bytes, login, spelled_login}
 use Rattle.user_login.specs.Messages.{counted}
 use Rattle.user_login.specs.Laws.{LoginReadAgain}
 

@@ -7,8 +7,8 @@ use Rattle.std.proofs.lemmas.List.{drop_all}
 use Rattle.std.specs.List.{list_any}
 use Rattle.std.specs.Prelude.{Option}
 use Rattle.sha2.specs.Sha256.{sha256}
-use Rattle.conf_model.specs.declared.user.User.{User}
-use Rattle.conf_model.specs.Users.{is_user, user_fits}
+use Rattle.socks_grammar.specs.declared.user.User.{User}
+use Rattle.socks_grammar.specs.Users.{is_user, user_fits}
 use Rattle.user_login.specs.Checking.{number_from, user_number}
 
 next-at : (users : List User) (i : ℕ) (u : User) → i < length users → u ≡ get_or users i u → drop i users ≡ u ∷ drop (i + 1) users

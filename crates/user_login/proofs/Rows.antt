@@ -1,7 +1,7 @@
 -- The definitions at worked logins and users files.
 use Rattle.std.proofs.Common.{◌≡◌, ◌++◌, [], ◌∷◌, Some, Ok, Err, codes, refl}
 use Rattle.hex.proofs.OnLiterals.{hex_on_literals}
-use Rattle.conf_model.specs.Grammar.{Read, login, login_status, spelled_login}
+use Rattle.socks_grammar.specs.Grammar.{Read, login, login_status, spelled_login}
 use Rattle.addr_pattern.specs.declared.front.BadKind.{BadKind}
 use Rattle.user_login.specs.declared.fault.UsersKind.{UsersKind}
 use Rattle.user_login.specs.UsersFile.{users_of, user_of, line_onto}

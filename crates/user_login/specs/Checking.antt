@@ -2,8 +2,8 @@
 use denote.Ref.{Bor}
 use Rattle.std.specs.Prelude.{◌≡◌, ℕ, ◌+◌, Bool, true, false, ◌||◌, ◌==◌, if◌then◌else◌, Option, Some, None, List, [], ◌∷◌, length}
 use Rattle.sha2.specs.Sha256.{sha256}
-use Rattle.conf_model.specs.declared.user.User.{User}
-use Rattle.conf_model.specs.Users.{is_user, user_fits}
+use Rattle.socks_grammar.specs.declared.user.User.{User}
+use Rattle.socks_grammar.specs.Users.{is_user, user_fits}
 
 -- the number of the first user who passes, where the first of all has this number
 abbrev pub number_from : ℕ → (User → Bool) → List User → Option ℕ

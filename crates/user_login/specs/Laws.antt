@@ -1,7 +1,7 @@
 -- Laws of the login and of the users file.
 use Rattle.std.specs.Prelude.{◌≡◌, ◌<◌, ℕ, true, Ok, List, ◌∷◌, ◌++◌, length}
-use Rattle.conf_model.specs.declared.user.User.{User}
-use Rattle.conf_model.specs.Grammar.{Read, login, login_status, spelled_login}
+use Rattle.socks_grammar.specs.declared.user.User.{User}
+use Rattle.socks_grammar.specs.Grammar.{Read, login, login_status, spelled_login}
 use Rattle.user_login.specs.UsersFile.{users_of, are_users}
 
 abbrev pub LoginReadAgain : Type 0

@@ -4,7 +4,7 @@ use Rattle.addr_pattern.specs.declared.front.Front.{Front}
 use Rattle.addr_pattern.specs.declared.front.BadAt.{BadAt}
 use Rattle.addr_pattern.specs.declared.front.BadKind.{BadKind}
 use Rattle.addr_pattern.specs.declared.front.Span.{Span}
-use Rattle.conf_model.specs.Grammar.{Read, Reader, Credentials, ◌>>=◌, any_byte, any_bytes, login}
+use Rattle.socks_grammar.specs.Grammar.{Read, Reader, Credentials, ◌>>=◌, any_byte, any_bytes, login}
 use Rattle.user_login.specs.declared.login.LoginAt.{LoginAt}
 
 -- the bytes of a part

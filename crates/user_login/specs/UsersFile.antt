@@ -7,7 +7,7 @@ use Rattle.addr_pattern.specs.Cuts.{first_cut}
 use Rattle.addr_pattern.specs.Names.{name_of}
 use Rattle.hex.specs.declared.error.FromHexError.{FromHexError}
 use Rattle.hex.specs.Hex.{decode_sized}
-use Rattle.conf_model.specs.declared.user.User.{User}
+use Rattle.socks_grammar.specs.declared.user.User.{User}
 use Rattle.user_login.specs.declared.fault.UsersFault.{UsersFault}
 use Rattle.user_login.specs.declared.fault.UsersKind.{UsersKind}
 

@@ -1,11 +1,11 @@
 //! The messages of the login (RFC 1929, section 2).
 ghost use Rattle.std.specs.Prelude.{◌≡◌, ◌∷◌, [], ◌≤◌, length};
-ghost use Rattle.conf_model.specs.Fronts.{IsFront};
-ghost use Rattle.conf_model.specs.Grammar.{login_status, spelled_login};
+ghost use Rattle.socks_grammar.specs.Fronts.{IsFront};
+ghost use Rattle.socks_grammar.specs.Grammar.{login_status, spelled_login};
 ghost use Rattle.user_login.specs.Messages.{OnCounted, OnLogin};
 
 use addr_pattern::{BadAt, BadKind, Front, Short, Span};
-use conf_model::Login;
+use socks_grammar::Login;
 
 /// Where a login has its name and its password. Each has 0 to 255 bytes of any value.
 #[derive(Clone, Copy, PartialEq, Eq, Debug)]

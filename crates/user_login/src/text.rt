@@ -5,9 +5,9 @@ ghost use Rattle.user_login.specs.UsersFile.{without_cr as without_cr_of, is_ski
 
 use crate::fault::{UsersFault, UsersKind};
 use addr_pattern::{Name, cut_first};
-use conf_model::User;
-use conf_text::List;
 use hex::FromHex;
+use lists::List;
+use socks_grammar::User;
 
 const USERS: usize = 4096;
 

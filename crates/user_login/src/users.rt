@@ -1,6 +1,6 @@
 //! The users who may log in.
 ghost use Rattle.std.specs.Prelude.{◌≡◌, ◌≤◌, [], length, IfOk, is_some};
-ghost use Rattle.conf_model.specs.Users.{user_fits};
+ghost use Rattle.socks_grammar.specs.Users.{user_fits};
 ghost use Rattle.user_login.specs.Checking.{user_number, OnFound};
 ghost use Rattle.user_login.specs.UsersFile.{OnUsers, are_users, longest};
 
@@ -8,9 +8,9 @@ use crate::digest::is_same_digest;
 use crate::fault::{UsersFault, UsersKind};
 use crate::text::add_numbered;
 use addr_pattern::cut_first;
-use conf_model::User;
-use conf_text::List;
+use lists::List;
 use sha2::{Digest, Sha256};
+use socks_grammar::User;
 use std::alloc::{AllocError, Global};
 use std::marker::Model;
 
@@ -24,7 +24,7 @@ pub struct Users {
 
 impl Model for Users {
     ghost use Rattle.std.specs.Prelude.{List as Items, ◌≡◌, true};
-    ghost use Rattle.conf_model.specs.declared.user.User.{User as SomeUser};
+    ghost use Rattle.socks_grammar.specs.declared.user.User.{User as SomeUser};
     ghost use Rattle.user_login.specs.UsersFile.{are_users, listed};
 
     ghost Value = { Items SomeUser };

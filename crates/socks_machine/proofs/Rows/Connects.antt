@@ -1,8 +1,8 @@
 -- CONNECT: what was sent, what was logged, and how it ended.
 use Rattle.std.specs.Prelude.{◌≡◌, refl, true, false, Some, None, List, [], ◌∷◌, ◌++◌, codes, replicate}
 use Rattle.addr_pattern.specs.declared.addr.Addr.{Addr}
-use Rattle.conf_model.specs.declared.protocol.Method.{Method}
-use Rattle.conf_model.specs.declared.config.Config.{Config}
+use Rattle.socks_grammar.specs.declared.protocol.Method.{Method}
+use Rattle.conf_types.specs.declared.entries.Entries.{Entries}
 use Rattle.socks_machine.specs.declared.world.Object.{Object}
 use Rattle.socks_machine.specs.declared.world.Outer.{Outer}
 use Rattle.socks_machine.specs.declared.world.NextMark.{NextMark}
@@ -74,7 +74,7 @@ denied_text = refl
 pub denied_log : logged [] 1 denied ≡ Some ((codes "1 open 1 gen 1 client 1 pass from 10.0.0.5:5000 to 127.0.0.1:1080" ++ 10 ∷ []) ++ (codes "2 grant 1 gen 1 client 1 socks none block connect v5 none user - from 10.0.0.5:5000 to 198.51.100.10:80 name -" ++ 10 ∷ []) ++ (codes "3 close 1 denied gen 1 client 1 socks none took 18 0 sent 12 0" ++ 10 ∷ []))
 denied_log = refl
 
-abbrev pub blocks_one_net : Config
+abbrev pub blocks_one_net : Entries
 blocks_one_net = config (Method.NoAuth ∷ []) (client_rule false (net 0x0A000000 8) any ∷ client_rule true any any ∷ []) (socks_rule true any any None ∷ []) []
 
 -- the client rule blocks

@@ -1,7 +1,7 @@
 -- UDP ASSOCIATE: what is sent and dropped, and the order in which datagrams and the client are read.
 use Rattle.std.specs.Prelude.{◌≡◌, refl, true, false, Some, None, List, [], ◌∷◌, ◌++◌, codes, replicate, is_some}
-use Rattle.conf_model.specs.declared.protocol.Method.{Method}
-use Rattle.conf_model.specs.declared.config.Config.{Config}
+use Rattle.socks_grammar.specs.declared.protocol.Method.{Method}
+use Rattle.conf_types.specs.declared.entries.Entries.{Entries}
 use Rattle.socks_machine.specs.declared.world.Object.{Object}
 use Rattle.socks_machine.specs.declared.world.Outer.{Outer}
 use Rattle.socks_machine.specs.declared.world.NextMark.{NextMark}
@@ -9,7 +9,7 @@ use Rattle.socks_machine.specs.declared.world.Event.{Event}
 use Rattle.socks_machine.proofs.Rows.Shared.{config, client_rule, socks_rule, any, net, quiet, told, logged, at4, client_at, local_at, all_pass}
 use Rattle.socks_machine.specs.Step.{run}
 
-abbrev pub udp_not_to_one_net : Config
+abbrev pub udp_not_to_one_net : Entries
 udp_not_to_one_net = config (Method.NoAuth ∷ []) (client_rule true any any ∷ []) (socks_rule false any (net 0xCB007100 24) None ∷ socks_rule true any any None ∷ []) []
 
 abbrev pub datagrams : List Event

@@ -1,7 +1,7 @@
 -- What the desk answers where several causes meet: a block, no place, a limit of 0, a failed log, a stop.
 use Rattle.std.specs.Prelude.{◌≡◌, refl, true, false, Some, List, [], ◌∷◌, ◌++◌, codes, option_map}
-use Rattle.conf_model.specs.declared.protocol.Method.{Method}
-use Rattle.conf_model.specs.declared.config.Config.{Config}
+use Rattle.socks_grammar.specs.declared.protocol.Method.{Method}
+use Rattle.conf_types.specs.declared.entries.Entries.{Entries}
 use Rattle.socks_machine.specs.declared.cause.StopBy.{StopBy}
 use Rattle.socks_machine.specs.declared.world.Outer.{Outer}
 use Rattle.socks_machine.specs.declared.world.NextMark.{NextMark}
@@ -110,10 +110,10 @@ open_logfault_live_log = refl
 pub open_logfault_live_ends : option_map ends (run [] 256 1 open_logfault_live) ≡ Some ((codes "client 1 -" ++ 10 ∷ []) ++ (codes "target 1 -" ++ 10 ∷ []) ++ (codes "end 1 logfault" ++ 10 ∷ []))
 open_logfault_live_ends = refl
 
-abbrev pub none_by_socks_rule : Config
+abbrev pub none_by_socks_rule : Entries
 none_by_socks_rule = config (Method.NoAuth ∷ []) ((record (client_rule true any any) { max = Some 1 }) ∷ []) (socks_rule true any any (Some 0) ∷ []) []
 
-abbrev pub none_by_either_rule : Config
+abbrev pub none_by_either_rule : Entries
 none_by_either_rule = config (Method.NoAuth ∷ []) ((record (client_rule true any any) { max = Some 0 }) ∷ []) (socks_rule true any any (Some 0) ∷ []) []
 
 -- a limit of 0 of the socks rule

@@ -1,18 +1,18 @@
 -- Username and password: what is answered, and how a wrong one ends.
 use Rattle.std.specs.Prelude.{◌≡◌, refl, true, None, List, [], ◌∷◌, ◌++◌, codes}
 use Rattle.sha2.specs.Sha256.{sha256, first_words, schedule, rounds, compress, hash_after, digest_bytes}
-use Rattle.conf_model.specs.declared.protocol.Method.{Method}
-use Rattle.conf_model.specs.declared.config.Config.{Config}
+use Rattle.socks_grammar.specs.declared.protocol.Method.{Method}
+use Rattle.conf_types.specs.declared.entries.Entries.{Entries}
 use Rattle.socks_machine.specs.declared.world.Object.{Object}
 use Rattle.socks_machine.specs.declared.world.Outer.{Outer}
 use Rattle.socks_machine.specs.declared.world.NextMark.{NextMark}
 use Rattle.socks_machine.specs.declared.world.Event.{Event}
 use Rattle.socks_machine.proofs.Rows.Shared.{config, client_rule, socks_rule, any, quiet, told, client_at, local_at, abc_user}
 
-abbrev pub login_or_none : Config
+abbrev pub login_or_none : Entries
 login_or_none = config (Method.Username ∷ Method.NoAuth ∷ []) (client_rule true any any ∷ []) (socks_rule true any any None ∷ []) []
 
-abbrev pub login_only : Config
+abbrev pub login_only : Entries
 login_only = config (Method.Username ∷ []) (client_rule true any any ∷ []) (socks_rule true any any None ∷ []) []
 
 abbrev pub login_passed : List Event

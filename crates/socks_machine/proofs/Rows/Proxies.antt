@@ -6,9 +6,9 @@ use Rattle.socks_machine.specs.declared.world.NextMark.{NextMark}
 use Rattle.socks_machine.specs.declared.world.Event.{Event}
 use Rattle.socks_machine.proofs.Rows.Shared.{quiet, told, at4, client_at, local_at, all_pass, gone_to, through_proxy4, through_proxy5}
 use Rattle.addr_pattern.specs.declared.addr.Addr.{Addr}
-use Rattle.conf_model.specs.declared.protocol.Version.{Version}
+use Rattle.socks_grammar.specs.declared.protocol.Version.{Version}
 use Rattle.socks_machine.specs.Step.{run}
-use Rattle.conf_model.specs.Dialogue.{said}
+use Rattle.socks_grammar.specs.Dialogue.{said}
 use Rattle.addr_pattern.specs.declared.host.Host.{Host}
 
 abbrev pub proxy_v4 : List Event

@@ -5,12 +5,12 @@ use Rattle.addr_pattern.specs.declared.endpoint.Endpoint.{Endpoint}
 use Rattle.addr_pattern.specs.declared.pattern.HostPattern.{HostPattern}
 use Rattle.addr_pattern.specs.declared.pattern.PortTest.{PortTest}
 use Rattle.addr_pattern.specs.declared.pattern.Pattern.{Pattern}
-use Rattle.conf_model.specs.declared.protocol.Method.{Method}
-use Rattle.conf_model.specs.declared.rule.ClientRule.{ClientRule}
-use Rattle.conf_model.specs.declared.rule.SocksRule.{SocksRule}
-use Rattle.conf_model.specs.declared.route.Route.{Route}
-use Rattle.conf_model.specs.declared.config.Config.{Config}
-use Rattle.conf_model.specs.declared.user.User.{User}
+use Rattle.socks_grammar.specs.declared.protocol.Method.{Method}
+use Rattle.conf_types.specs.declared.rule.ClientRule.{ClientRule}
+use Rattle.conf_types.specs.declared.rule.SocksRule.{SocksRule}
+use Rattle.conf_types.specs.declared.route.Route.{Route}
+use Rattle.conf_types.specs.declared.entries.Entries.{Entries}
+use Rattle.socks_grammar.specs.declared.user.User.{User}
 use Rattle.socks_machine.specs.declared.world.Outer.{Outer}
 use Rattle.socks_machine.specs.declared.world.NextMark.{NextMark}
 use Rattle.socks_machine.specs.declared.world.TurnEvent.{TurnEvent}
@@ -20,8 +20,8 @@ use Rattle.socks_machine.specs.LogText.{log_text}
 use Rattle.socks_machine.specs.Step.{run, start, step}
 use Rattle.socks_machine.specs.Taking.{◌>>=◌}
 use Rattle.socks_machine.specs.Transcript.{traced, with_ends}
-use Rattle.conf_model.specs.declared.route.Via.{Via}
-use Rattle.conf_model.specs.declared.protocol.Version.{Version}
+use Rattle.conf_types.specs.declared.route.Via.{Via}
+use Rattle.socks_grammar.specs.declared.protocol.Version.{Version}
 use Rattle.socks_machine.specs.Socks.{socks}
 use Rattle.socks_machine.specs.declared.record.Decision.{Decision}
 
@@ -58,7 +58,7 @@ socks_rule pass from to max = record {
   max = max;
 }
 
-abbrev pub config : List Method → List ClientRule → List SocksRule → List Route → Config
+abbrev pub config : List Method → List ClientRule → List SocksRule → List Route → Entries
 config methods client socks routes = record {
   internals = at4 0x7F000001 1080 ∷ [];
   externals = [];
@@ -72,7 +72,7 @@ config methods client socks routes = record {
 }
 
 -- any client may ask for anything
-abbrev pub all_pass : Config
+abbrev pub all_pass : Entries
 all_pass = config (Method.NoAuth ∷ []) (client_rule true any any ∷ []) (socks_rule true any any None ∷ []) []
 
 abbrev pub client_at : Endpoint
@@ -153,22 +153,22 @@ turns_there x = (traced x.0 x.1).0
 abbrev pub turns_told : List User → ℕ → ℕ → List Event → List ℕ
 turns_told users workers skip es = turns_there (past skip (Some (start users 256 workers)) es)
 
-abbrev pub to_one_net : Config
+abbrev pub to_one_net : Entries
 to_one_net = config (Method.NoAuth ∷ []) (client_rule true any any ∷ []) (socks_rule true any (net 0xC0000200 24) None ∷ []) []
 
-abbrev pub through_proxy4 : Config
+abbrev pub through_proxy4 : Entries
 through_proxy4 = config (Method.NoAuth ∷ []) (client_rule true any any ∷ []) (socks_rule true any any None ∷ []) (route proxy4 ∷ [])
 
-abbrev pub through_proxy5 : Config
+abbrev pub through_proxy5 : Entries
 through_proxy5 = config (Method.NoAuth ∷ []) (client_rule true any any ∷ []) (socks_rule true any any None ∷ []) (route proxy5 ∷ [])
 
-abbrev pub one_by_socks_rule : Config
+abbrev pub one_by_socks_rule : Entries
 one_by_socks_rule = config (Method.NoAuth ∷ []) (client_rule true any any ∷ []) (socks_rule true any any (Some 1) ∷ []) []
 
-abbrev pub none_passes : Config
+abbrev pub none_passes : Entries
 none_passes = config (Method.NoAuth ∷ []) (client_rule true any any ∷ []) (socks_rule false any any None ∷ []) []
 
-abbrev pub blocks_clients : Config
+abbrev pub blocks_clients : Entries
 blocks_clients = config (Method.NoAuth ∷ []) (client_rule false any any ∷ []) (socks_rule true any any None ∷ []) []
 
 -- where the dials, doors and ports of a run go or stand
@@ -179,7 +179,7 @@ gone_to_of _ = []
 abbrev pub gone_to : List Event → Option (List Endpoint)
 gone_to es = option_map (λ w. flat_map (λ r. flat_map gone_to_of r.decisions) w.records) (run [] 256 1 es)
 
-abbrev pub one_by_client_rule : Config
+abbrev pub one_by_client_rule : Entries
 one_by_client_rule = config (Method.NoAuth ∷ []) ((record (client_rule true any any) { max = Some 1 }) ∷ []) (socks_rule true any any None ∷ []) []
 
 -- an association that its desk has let in

@@ -4,19 +4,19 @@ use Rattle.addr_pattern.specs.declared.addr.Addr.{Addr}
 use Rattle.addr_pattern.specs.declared.host.Host.{Host}
 use Rattle.addr_pattern.specs.declared.pattern.HostPattern.{HostPattern}
 use Rattle.addr_pattern.specs.declared.pattern.PortTest.{PortTest}
-use Rattle.conf_model.specs.declared.protocol.Command.{Command}
+use Rattle.socks_grammar.specs.declared.protocol.Command.{Command}
 use Rattle.addr_pattern.specs.AddressText.{addr_of, addr_text}
-use Rattle.conf_model.specs.Grammar.{Read, request4}
+use Rattle.socks_grammar.specs.Grammar.{Read, request4}
 use Rattle.addr_pattern.specs.declared.endpoint.Endpoint.{Endpoint}
 use Rattle.addr_pattern.specs.declared.pattern.Pattern.{Pattern}
-use Rattle.conf_model.specs.declared.protocol.Method.{Method}
-use Rattle.conf_model.specs.declared.protocol.Version.{Version}
-use Rattle.conf_model.specs.declared.protocol.Stage.{Stage}
-use Rattle.conf_model.specs.declared.config.Config.{Config}
-use Rattle.conf_model.specs.declared.rule.SocksRule.{SocksRule}
+use Rattle.socks_grammar.specs.declared.protocol.Method.{Method}
+use Rattle.socks_grammar.specs.declared.protocol.Version.{Version}
+use Rattle.socks_grammar.specs.declared.protocol.Stage.{Stage}
+use Rattle.conf_types.specs.declared.entries.Entries.{Entries}
+use Rattle.conf_types.specs.declared.rule.SocksRule.{SocksRule}
 use Rattle.rule_list.specs.declared.facts.Facts.{Facts}
 use Rattle.rule_list.specs.declared.verdict.Verdict.{Verdict}
-use Rattle.conf_model.specs.Dialogue.{Wish, Outcome, said, outcome}
+use Rattle.socks_grammar.specs.Dialogue.{Wish, Outcome, said, outcome}
 use Rattle.rule_list.specs.Rules.{judge}
 use Rattle.socks_machine.proofs.Rows.Shared.{config, client_rule, socks_rule, any, net, at4, greeting, request}
 use Rattle.addr_pattern.specs.Matches.{host_matches}
@@ -93,7 +93,7 @@ replies_only r = record r { connect = false; bind = false; udpassociate = false 
 abbrev pub connects_only : SocksRule → SocksRule
 connects_only r = record r { bind = false; bindreply = false; udpreply = false }
 
-abbrev pub dante : Config
+abbrev pub dante : Entries
 dante = config (Method.Username ∷ Method.NoAuth ∷ [])
     (client_rule true (from_port (net 0x0A000000 8) 1 65535) (net 0 0) ∷ client_rule false any any ∷ [])
     (socks_rule false (net 0 0) (net 0x7F000000 8) None

@@ -1,6 +1,6 @@
 -- Moments: since when an association is idle, and when its time is over.
 use Rattle.std.specs.Prelude.{◌≡◌, refl, true, false, Some, List, [], ◌∷◌, ◌++◌, codes, is_some}
-use Rattle.conf_model.specs.declared.config.Config.{Config}
+use Rattle.conf_types.specs.declared.entries.Entries.{Entries}
 use Rattle.socks_machine.specs.declared.world.Object.{Object}
 use Rattle.socks_machine.specs.declared.world.Outer.{Outer}
 use Rattle.socks_machine.specs.declared.world.NextMark.{NextMark}
@@ -8,7 +8,7 @@ use Rattle.socks_machine.specs.declared.world.Event.{Event}
 use Rattle.socks_machine.proofs.Rows.Shared.{all_pass, quiet, told, logged, at4, client_at, local_at, to_one_net}
 use Rattle.socks_machine.specs.Step.{run}
 
-abbrev pub short_negotiation : Config
+abbrev pub short_negotiation : Entries
 short_negotiation = record all_pass { negotiate = 5 }
 
 abbrev pub timed_out : List Event

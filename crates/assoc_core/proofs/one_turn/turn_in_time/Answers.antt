@@ -13,12 +13,6 @@ pub returns-in-Some-clause-turns : goal.returns-in-Some-clause-turns
 returns-in-Some-clause-turns g c = if-ok c.closing.result _ _ (λ next f pubs h marks stood stands tells published plain.
     f c.args.users.now pubs c.args.generation c.args.config.now c.args.a.state.since (g.N.Net.told c.args.net.now) h marks stood stands refl) c.closing.ensures.turns
 
-pub accept-requires : goal.accept-requires
-accept-requires g c = c.requires
-
-pub talk-requires : goal.talk-requires
-talk-requires g c = c.requires
-
 pub returns-in-Accept-clause-turns : goal.returns-in-Accept-clause-turns
 returns-in-Accept-clause-turns g c =
     if-ok c.accept.result _ _ (λ next f pubs h marks stood stands tells published plain.
@@ -58,9 +52,6 @@ returns-in-Relay-clause-turns g c =
     if-ok c.relay.result _ _ (λ next f pubs h marks stood stands tells published plain.
     let k = at-relay c.args.users.now c.args.a.state c.args.a.state.decisions stands.plain.decided none (ap course_of (sym c.as_slice.ensures) ∙ sym c.in-Relay.ensures) in
     f c.args.users.now pubs c.args.generation c.args.config.now c.args.a.state.since (g.N.Net.told c.args.net.now) h marks k.0 stood stands refl k.1 none) c.relay.ensures.turns
-
-pub judge-requires : goal.judge-requires
-judge-requires g c = c.requires
 
 pub returns-in-Judge-clause-cap : goal.returns-in-Judge-clause-cap
 returns-in-Judge-clause-cap g c = c.judge.ensures.cap

@@ -1,5 +1,5 @@
 use Rattle.std.proofs.Common.{ℕ, ◌+◌, length, sym, ap, ◌∙◌, arith}
-use Rattle.conf_model.specs.Grammar.{request5}
+use Rattle.socks_grammar.specs.Grammar.{request5}
 use Rattle.socks_machine.specs.Settle.{bad_cause}
 use Rattle.handshake_core.specs.Asking.{asked_in}
 use Rattle.handshake_core.proofs.Asking.{front-more, front-bad, front-whole}

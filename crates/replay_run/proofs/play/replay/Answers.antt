@@ -1,5 +1,5 @@
 use Rattle.std.proofs.Common.{◌∙◌, sym, ap, subst, List, []}
-use Rattle.conf_model.specs.declared.user.User.{User}
+use Rattle.socks_grammar.specs.declared.user.User.{User}
 use Rattle.socks_machine.specs.declared.script.ScriptLine.{ScriptLine}
 use Rattle.socks_machine.specs.declared.world.World.{World}
 use Rattle.socks_machine.specs.Follows.{IsReplay, opens_of, users_of}

@@ -1,5 +1,5 @@
 use Rattle.std.proofs.Common.{◌≡◌, false, true≢false, ap, sym, ◌∙◌}
-use Rattle.replay_script.specs.declared.entry.Entry.{Entry}
+use Rattle.replay_script.specs.declared.entry.TextLine.{TextLine}
 use Rattle.replay_script.specs.Script.{Begins, BeginsNothing, entry_allowed}
 use Rattle.replay_script.proofs.Serving.{begins_form}
 use Rattle.replay_script.proofs.Steps.{one_begin, refused_apart, unlooked}
@@ -23,7 +23,7 @@ returns-in-Ok-false c =
       steps = record {
         serves = λ entry lines behind h.
             let e : entry ≡ c.in-Ok-Some.entry = one_begin c.args.text.now entry c.in-Ok-Some.entry lines c.in-Ok-Some.lines behind c.in-Ok-Some.behind.now h.begins found in
-            true≢false (sym h.allowed ∙ (ap (λ (z : Entry). entry_allowed c.args.state.now z) e ∙ refused));
+            true≢false (sym h.allowed ∙ (ap (λ (z : TextLine). entry_allowed c.args.state.now z) e ∙ refused));
         refuses = λ kind h. refused_apart c.args.text.now kind c.in-Ok-Some.entry c.in-Ok-Some.lines c.in-Ok-Some.behind.now h.faulty found;
       };
       refused = tt;

@@ -1,13 +1,13 @@
 use Rattle.replay_run.specs.Changes.{with_client_end}
 use Rattle.std.proofs.Common.{Bool, not}
-use Rattle.replay_script.specs.declared.state.Side.{Side}
+use Rattle.replay_script.specs.declared.state.AssociationState.{AssociationState}
 use Rattle.socks_machine.specs.declared.script.ScriptLine.{ScriptLine}
 use Rattle.socks_machine.specs.Step.{basis_of}
 use Rattle.replay_run.specs.declared.slot.Slot.{Slot}
 use Rattle.replay_run.proofs.Changing.{changed, client-end-changes, place-of, place-there, put-back, still-there}
 use Rattle.replay_run.proofs.state.Replay.client_end.Goals as goal
 
-abbrev unended : Side → Bool
+abbrev unended : AssociationState → Bool
 unended side = not side.end_c
 
 pub replace-slot-requires : goal.replace-slot-requires

@@ -2,13 +2,13 @@ use Rattle.std.proofs.Common.{Bool, not}
 use Rattle.net_ends.specs.Plans.{planned}
 use Rattle.replay_run.specs.Changes.{with_plan}
 use Rattle.socks_machine.specs.declared.script.ScriptLine.{ScriptLine}
-use Rattle.replay_script.specs.declared.state.Side.{Side}
+use Rattle.replay_script.specs.declared.state.AssociationState.{AssociationState}
 use Rattle.socks_machine.specs.Step.{basis_of}
 use Rattle.replay_run.specs.declared.slot.Slot.{Slot}
 use Rattle.replay_run.proofs.Changing.{changed, dial-changes, place-of, place-there, put-back, still-there}
 use Rattle.replay_run.proofs.state.Replay.dial.Goals as goal
 
-abbrev may_dial : Side → Bool
+abbrev may_dial : AssociationState → Bool
 may_dial side = not side.dialled
 
 pub replace-slot-requires : goal.replace-slot-requires

@@ -1,5 +1,5 @@
 use Rattle.std.proofs.Common.{sym, subst, List, ◌∷◌, take, take_all, drop, ◌+◌}
-use Rattle.conf_model.specs.declared.user.User.{User}
+use Rattle.socks_grammar.specs.declared.user.User.{User}
 use Rattle.socks_machine.specs.declared.script.ScriptLine.{ScriptLine}
 use Rattle.replay_script.specs.Conditions.{IsServedFrom, after, start}
 use Rattle.replay_run.specs.Behind.{IsBehind}

@@ -1,13 +1,13 @@
 use Rattle.std.proofs.Common.{Bool, true}
 use Rattle.replay_run.specs.Changes.{with_side_narrow}
 use Rattle.socks_machine.specs.declared.script.ScriptLine.{ScriptLine}
-use Rattle.replay_script.specs.declared.state.Side.{Side}
+use Rattle.replay_script.specs.declared.state.AssociationState.{AssociationState}
 use Rattle.socks_machine.specs.Step.{basis_of}
 use Rattle.replay_run.specs.declared.slot.Slot.{Slot}
 use Rattle.replay_run.proofs.Changing.{changed, room-changes, place-of, place-there, put-back, still-there}
 use Rattle.replay_run.proofs.state.Replay.room.Goals as goal
 
-abbrev may_be_open : Side → Bool
+abbrev may_be_open : AssociationState → Bool
 may_be_open side = true
 
 pub replace-slot-requires : goal.replace-slot-requires

@@ -2,13 +2,13 @@ use Rattle.std.proofs.Common.{Bool, not}
 use Rattle.std.proofs.lemmas.Result.{IfOk-weaker}
 use Rattle.replay_run.specs.Changes.{with_target_arrival}
 use Rattle.socks_machine.specs.declared.script.ScriptLine.{ScriptLine}
-use Rattle.replay_script.specs.declared.state.Side.{Side}
+use Rattle.replay_script.specs.declared.state.AssociationState.{AssociationState}
 use Rattle.socks_machine.specs.Step.{basis_of}
 use Rattle.replay_run.specs.declared.slot.Slot.{Slot}
 use Rattle.replay_run.proofs.Changing.{changed, target-changes, may-arrive-at-target, place-of, place-there, put-back, still-there}
 use Rattle.replay_run.proofs.state.Replay.target.Goals as goal
 
-abbrev may_arrive_from_target : Side → Bool
+abbrev may_arrive_from_target : AssociationState → Bool
 may_arrive_from_target side = not side.end_t
 
 pub replace-slot-requires : goal.replace-slot-requires

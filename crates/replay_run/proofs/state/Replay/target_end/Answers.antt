@@ -1,13 +1,13 @@
 use Rattle.std.proofs.Common.{Bool, not}
 use Rattle.replay_run.specs.Changes.{with_target_end}
 use Rattle.socks_machine.specs.declared.script.ScriptLine.{ScriptLine}
-use Rattle.replay_script.specs.declared.state.Side.{Side}
+use Rattle.replay_script.specs.declared.state.AssociationState.{AssociationState}
 use Rattle.socks_machine.specs.Step.{basis_of}
 use Rattle.replay_run.specs.declared.slot.Slot.{Slot}
 use Rattle.replay_run.proofs.Changing.{changed, target-end-changes, place-of, place-there, put-back, still-there}
 use Rattle.replay_run.proofs.state.Replay.target_end.Goals as goal
 
-abbrev may_end_target : Side → Bool
+abbrev may_end_target : AssociationState → Bool
 may_end_target side = not side.end_t
 
 pub replace-slot-requires : goal.replace-slot-requires

@@ -1,5 +1,5 @@
 use Rattle.std.proofs.Common.{List, sym, ◌∙◌, ap}
-use Rattle.session_desk.specs.declared.entry.Entry.{Entry}
+use Rattle.session_desk.specs.declared.entry.LiveAssociation.{LiveAssociation}
 use Rattle.session_desk.specs.Books.{Book}
 use Rattle.session_desk.proofs.Places.{with_grant-place, renewed-none}
 use Rattle.session_desk.proofs.desk.Desk.renew.Goals as goal
@@ -7,7 +7,7 @@ use Rattle.session_desk.proofs.desk.Desk.renew.Goals as goal
 pub returns-in-None : goal.returns-in-None
 returns-in-None c =
     let same = renewed-none c.args.number c.args.live c.args.self.now.entries (sym c.place_of.ensures.value ∙ c.in-None.is) in
-    ap (λ (es : List Entry). let b : Book = record c.args.self.now { entries = es } in b) (sym same)
+    ap (λ (es : List LiveAssociation). let b : Book = record c.args.self.now { entries = es } in b) (sym same)
 
 pub returns-in-Some : goal.returns-in-Some
 returns-in-Some c =

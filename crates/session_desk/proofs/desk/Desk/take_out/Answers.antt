@@ -1,5 +1,5 @@
 use Rattle.std.proofs.Common.{List, sym, ◌∙◌, ap}
-use Rattle.session_desk.specs.declared.entry.Entry.{Entry}
+use Rattle.session_desk.specs.declared.entry.LiveAssociation.{LiveAssociation}
 use Rattle.session_desk.specs.Books.{Book}
 use Rattle.session_desk.proofs.Places.{without_entry-place, without-none}
 use Rattle.session_desk.proofs.desk.Desk.take_out.Goals as goal
@@ -7,10 +7,10 @@ use Rattle.session_desk.proofs.desk.Desk.take_out.Goals as goal
 pub returns-in-None : goal.returns-in-None
 returns-in-None c =
     let same = without-none c.args.number c.args.self.now.entries (sym c.place_of.ensures.value ∙ c.in-None.is) in
-    ap (λ (es : List Entry). let b : Book = record c.args.self.now { entries = es } in b) (sym same)
+    ap (λ (es : List LiveAssociation). let b : Book = record c.args.self.now { entries = es } in b) (sym same)
 
 pub returns-in-Some : goal.returns-in-Some
 returns-in-Some c =
     let seen : Book = record { cap = c.self.inside.cap; entries = c.self.inside.entries.items; lines = c.self.inside.lines; stopped = c.self.inside.stopped } in
     let removed = without_entry-place seen c.args.self.now c.args.number c.in-Some.place c.self.view_is (sym c.place_of.ensures.value ∙ c.in-Some.is) in
-    ap (λ (es : List Entry). let after : Book = record seen { entries = es } in after) c.remove.ensures.items ∙ removed
+    ap (λ (es : List LiveAssociation). let after : Book = record seen { entries = es } in after) c.remove.ensures.items ∙ removed

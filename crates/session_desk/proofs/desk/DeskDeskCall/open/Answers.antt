@@ -1,5 +1,5 @@
 use Rattle.session_desk.proofs.Laws.{opens}
-use Rattle.session_desk.proofs.Limits.{may_open}
+use Rattle.session_desk.proofs.Limits.{may_open, open_unfailing}
 use Rattle.session_desk.proofs.desk.DeskDeskCall.open.Goals as goal
 
 pub returns-clause-line : goal.returns-clause-line
@@ -7,3 +7,6 @@ returns-clause-line c = opens c.args.self.now c.answer_open.new.self c.args.line
 
 pub returns-clause-answer : goal.returns-clause-answer
 returns-clause-answer c = may_open c.args.self.now c.args.line.now c.answer_open.result c.answer_open.ensures.said
+
+pub returns-clause-unfailing : goal.returns-clause-unfailing
+returns-clause-unfailing c = open_unfailing c.args.self.now c.args.line.now c.answer_open.result c.answer_open.ensures.said

@@ -1,6 +1,6 @@
 use Rattle.std.proofs.Common.{◌≡◌, ◌+◌, drop}
 use Rattle.sha2.specs.Sha256.{sha256}
-use Rattle.conf_model.specs.Users.{is_user}
+use Rattle.socks_grammar.specs.Users.{is_user}
 use Rattle.user_login.specs.Checking.{number_from}
 use Rattle.user_login.proofs.users.Users.check.Given as goal
 
