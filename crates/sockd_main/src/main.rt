@@ -4,18 +4,11 @@
 ghost use Rattle.std.specs.Prelude.{◌≡◌, ◌≢◌};
 ghost use Rattle.std.specs.IoError.{error_kind};
 
-mod conf_file;
-mod end;
 mod no_caller;
-mod report;
-mod run;
 mod standard;
-mod whole;
 
-use end::End;
 use no_caller::NoCaller;
-use report::report;
-use run::quick;
+use sockd_commands::{End, quick, report};
 use standard::{Reader, SystemFiles, Writer};
 use std::io::ErrorKind;
 use std::process::ExitCode;
@@ -68,6 +61,3 @@ fn main(rt: HostRuntime) -> ExitCode {
     };
     ExitCode::from(status)
 }
-
-#[cfg(test)]
-mod tests;

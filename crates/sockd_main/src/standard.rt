@@ -2,8 +2,8 @@
 //! or a terminal holds. Where a reader or a writer knows its bytes itself, each call hands them on.
 ghost use Rattle.std.specs.Prelude.{◌≡◌, ◌<◌, ◌≤◌, None, length};
 
-use crate::whole::{Input, read_all};
 use net_ends::{Giving, Sink, Source, Store, Stored, Taking};
+use sockd_commands::{Input, read_all};
 use std::alloc::Global;
 use std::fs;
 use std::io::{Read, Write};

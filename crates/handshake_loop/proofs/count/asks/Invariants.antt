@@ -1,5 +1,0 @@
-use Rattle.handshake_loop.proofs.Bytes.{IsSoFar}
-use Rattle.handshake_loop.proofs.count.asks.Given as goal
-
-abbrev pub invariant-loop-byte : goal.invariant-loop-byte
-invariant-loop-byte l = IsSoFar l.methods l.users l.bytes l.byte-index l.handshake

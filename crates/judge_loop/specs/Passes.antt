@@ -1,9 +1,0 @@
--- The passes of many judgements of one request.
-use Rattle.std.specs.Prelude.{ℕ, if◌then◌else◌}
-use Rattle.conf_model.specs.declared.config.Config.{Config}
-use Rattle.rule_list.specs.declared.facts.Facts.{Facts}
-use Rattle.rule_list.specs.Rules.{judge, is_pass}
-
--- each of the judgements, or none
-abbrev pub passes_of : ℕ → Config → Facts → ℕ
-passes_of count k f = if is_pass (judge k f) then count else 0

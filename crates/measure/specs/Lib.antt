@@ -1,0 +1,4 @@
+pub mod Asks
+pub mod Passes
+pub mod Preludes
+pub mod Sizes

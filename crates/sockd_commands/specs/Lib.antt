@@ -1,0 +1,4 @@
+pub mod ConfFile
+pub mod Quick
+pub mod Whole
+pub mod Words
