@@ -1,5 +1,5 @@
 -- What one turn comes to.
-use Rattle.std.specs.Prelude.{ℕ, ◌+◌, ◌≡◌, ◌≢◌, ◌<◌, ◌≤◌, Bool, true, false, ◌||◌, Option, Some, None, List, [], ◌∷◌, ◌++◌, length, is_some}
+use Rattle.std.specs.Prelude.{ℕ, ◌+◌, ◌≡◌, ◌≢◌, ◌<◌, ◌≤◌, Bool, true, false, ◌||◌, Option, Some, None, List, [], ◌∷◌, ◌++◌, length, is_some, IfSome}
 use Rattle.conf_types.specs.declared.entries.Entries.{Entries}
 use Rattle.socks_grammar.specs.declared.protocol.Command.{Command}
 use Rattle.socks_grammar.specs.declared.user.User.{User}
@@ -18,7 +18,9 @@ use Rattle.socks_machine.specs.declared.world.Outer.{Outer}
 use Rattle.socks_machine.specs.declared.world.TurnEvent.{TurnEvent}
 use Rattle.socks_machine.specs.Basis.{Basis}
 use Rattle.socks_machine.specs.Calls.{Context, TurnResult}
+use Rattle.socks_machine.specs.declared.script.CallKind.{CallKind}
 use Rattle.socks_machine.specs.Decisions.{reached_at}
+use Rattle.socks_machine.specs.FailedCalls.{can_fail}
 use Rattle.socks_machine.specs.Owed.{waiting_for_target, waiting_for_client}
 use Rattle.socks_machine.specs.Phase.{Phase, phase, is_udp}
 use Rattle.socks_machine.specs.Script.{without_ends}
@@ -220,6 +222,16 @@ abbrev pub is_write : Option Kind → Bool
 is_write (Some Kind.Write) = true
 is_write _ = false
 
+-- the kind of a call as the machine has it
+abbrev pub call_of : Kind → CallKind
+call_of Kind.Read = CallKind.Reading
+call_of Kind.Write = CallKind.Writing
+call_of Kind.Shut = CallKind.Shutting
+
+-- a call of the kind that failed on an object, if one did, is one that can fail there
+abbrev pub FailsWhere : Basis → Record → Record → Object → Option Kind → Type 0
+FailsWhere basis taken left x failed = IfSome failed (λ kind. can_fail basis taken left (x, call_of kind) ≡ true)
+
 -- why nothing more was read of a side: it has ended, or answered NotYet, a quantum was taken, a call failed, as many bytes of
 -- it wait in a relay as a pipe holds, or the phase behind all that was taken, but for the ends, doesn't read it
 pub data StopsReading (was ends idle : Bool) (part : List ℕ) (fault : Option Object) (Filled Unread : Type 0) : Type 0 where
@@ -315,6 +327,8 @@ pub record Turns {L : Type 0} (told : L → Told) (counts : L → Counts) (stand
   pub failed_t : Option Kind
   pub tried_c : Tried (counts a.client) (counts (left_of next).client) ((acts.c ≡ []) × (acts.end_c ≡ false) × (acts.idle_c ≡ false)) ((acts.sent_c ≡ 0) × (acts.full_c ≡ false)) (acts.shut_c ≡ false) failed_c
   pub tried_t : TriedTarget counts net a.target (left_of next).target ((acts.t ≡ []) × (acts.end_t ≡ false) × (acts.idle_t ≡ false)) ((acts.sent_t ≡ 0) × (acts.full_t ≡ false)) (acts.shut_t ≡ false) failed_t
+  pub where_c : FailsWhere s.basis behind result.left Object.Client failed_c
+  pub where_t : FailsWhere s.basis behind result.left Object.Target failed_t
   pub fault_is : FaultIs acts.fault failed_c failed_t
   pub unwritten_is : acts.unwritten ≡ is_write failed_c || is_write failed_t
   pub fails_c : acts.fault ≡ Some Object.Client → Rose (counts a.client).faults (counts (left_of next).client).faults

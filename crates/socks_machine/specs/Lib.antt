@@ -3,6 +3,7 @@ pub mod Calls
 pub mod Datagrams
 pub mod Decisions
 pub mod Equal
+pub mod FailedCalls
 pub mod Fine
 pub mod Follows
 pub mod Front
