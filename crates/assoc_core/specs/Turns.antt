@@ -82,6 +82,7 @@ event_of worker number now x next = record {
   full = links x.full_c x.full_t;
   fault = x.fault;
   unwritten = x.unwritten;
+  failed = [];
   memory = false;
   next = next;
 }

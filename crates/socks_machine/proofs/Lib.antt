@@ -1,6 +1,7 @@
 pub mod ActLaws
 pub mod CallLaws
 pub mod DatagramLaws
+pub mod FollowLaws
 pub mod LaterLaws
 pub mod MemoryLaws
 pub mod OwedLaws
@@ -12,6 +13,7 @@ pub mod RelayExample
 pub mod RelayLaws
 pub mod Rows
 pub mod SocksRelay
+pub mod SameConfigLaws
 pub mod StartLaws
 pub mod TakeLaws
 pub mod TalkLaws

@@ -221,6 +221,7 @@ begun_event worker number now stop = record {
   full = [];
   fault = None;
   unwritten = false;
+  failed = [];
   memory = false;
   next = NextMark.Going;
 }

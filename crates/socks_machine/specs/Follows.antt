@@ -1,7 +1,7 @@
 -- Which events a script allows, as a relation: its lines in order, and then the closing rounds. (`Script` has the same as
 -- tests that compute.)
 use Rattle.std.specs.Prelude.{ℕ, suc, ◌≡◌, ◌≢◌, ◌↔◌, ◌<◌, Bool, true, false, ◌&&◌, not, if◌then◌else◌, IsTrue, Option, Some, None, List, [], ◌∷◌, ◌++◌, length, map, filter, All, Contains, IfSome, is_some}
-use Rattle.std.specs.List.{list_any}
+use Rattle.std.specs.List.{list_any, list_all}
 use mathlib.Core.List.{IsPrefix}
 use Rattle.addr_pattern.specs.declared.endpoint.Endpoint.{Endpoint}
 use Rattle.conf_types.specs.declared.entries.Entries.{Entries}
@@ -21,13 +21,14 @@ use Rattle.socks_machine.specs.History.{last_mark}
 use Rattle.socks_machine.specs.Owed.{waiting_for_target, waiting_for_client}
 use Rattle.socks_machine.specs.Phase.{Phase, phase}
 use Rattle.rule_list.specs.Rules.{numbered}
-use Rattle.socks_machine.specs.Script.{Outside, Surroundings, outside_after, change, is_fault, is_silent, is_still, next_in_round, going, without_ends, behind_turn, did, reached_as, first_surroundings}
+use Rattle.socks_machine.specs.FailedCalls.{Failing}
+use Rattle.socks_machine.specs.Script.{Outside, Surroundings, outside_after, is_silent, is_still, next_in_round, going, without_ends, behind_turn, did, reached_as, first_surroundings, is_among, writes_link, has_first, can_fail_in, used_up, surroundings_after}
 use Rattle.socks_machine.specs.declared.script.ScriptLine.{ScriptLine}
 use Rattle.socks_machine.specs.declared.script.CallKind.{CallKind}
 use Rattle.socks_machine.specs.Step.{basis_of, step, start, run}
 use Rattle.socks_machine.specs.Taking.{holds, taken, pipe_size, reads_target, reads_client}
 use Rattle.socks_machine.specs.Transcript.{transcript}
-use Rattle.socks_machine.specs.Turn.{quantum, is_link}
+use Rattle.socks_machine.specs.Turn.{quantum}
 use Rattle.std.specs.Prelude.{slice_get}
 
 abbrev pub packet : Gram → Endpoint × List ℕ
@@ -49,34 +50,14 @@ pub record OuterFits (basis : Basis) (generation : ℕ) (config : Entries) (o : 
 
 -- ---- failed calls
 
--- a call that failed, and of which kind it was
-abbrev pub Failing : Type 0
-Failing = Object × CallKind
-
--- a write to a link
-abbrev pub writes_link : Failing → Bool
-writes_link (x, CallKind.Writing) = is_link x
-writes_link (x, k) = false
-
--- The failed calls of a turn. A line names each, and no call that a line names has succeeded. The one that failed first is
--- among them, and a write to a link is exactly where the turn says so.
-pub record FaultsAre (o : Outside) (ev : TurnEvent) (used : List Failing) : Type 0 where
-  pub named : All (Contains o.faults) used
-  pub undone : All (λ f. did ev f ≡ false) o.faults
-  pub none : ev.fault ≡ None → used ≡ []
-  pub first : IfSome ev.fault (λ x. (k : CallKind) × Contains used (x, k))
-  pub unwritten : IsTrue ev.unwritten ↔ IsTrue (list_any writes_link used)
-
--- they are used up, and so is the peer that was met
-abbrev pub is_used : List Failing → Failing → Bool
-is_used used f = list_any (is_fault f.0 f.1) used
-
-abbrev pub used_up : Surroundings → TurnEvent → List Failing → Surroundings
-used_up s ev used = change s ev.number (λ o. record o { faults = filter (λ f. not (is_used used f)) o.faults; peer = (if is_some ev.came then None else o.peer) })
-
-abbrev pub surroundings_after : Surroundings → Event → List Failing → Surroundings
-surroundings_after s (Event.Turn ev) used = used_up s ev used
-surroundings_after s e used = s
+-- The failed calls of a turn. A line names each, and no call that a line names has succeeded. Each can have failed in the turn.
+-- The one that failed first is among them, and a write to a link is exactly where the turn says so.
+pub record FaultsAre (o : Outside) (ev : TurnEvent) (can : Failing → Bool) : Type 0 where
+  pub named : list_all (is_among o.faults) ev.failed ≡ true
+  pub undone : list_any (did ev) o.faults ≡ false
+  pub could : list_all can ev.failed ≡ true
+  pub first : has_first ev.fault ev.failed ≡ true
+  pub unwritten : ev.unwritten ≡ list_any writes_link ev.failed
 
 -- ---- ends
 
@@ -104,7 +85,7 @@ EndFits (Some x) read Comes = IsTrue read → Comes
 
 -- ---- turns
 
-pub record Allows (s : Surroundings) (w : World) (generation : ℕ) (config : Entries) (o : Outside) (ev : TurnEvent) (used : List Failing) (r : Record) : Type 0 where
+pub record Allows (s : Surroundings) (w : World) (generation : ℕ) (config : Entries) (o : Outside) (ev : TurnEvent) (r : Record) : Type 0 where
   pub moment : ev.now ≡ s.now
   pub stop' : ev.stop ≡ last_mark w.marks
   pub ends : ev.next ≢ NextMark.Going
@@ -113,10 +94,10 @@ pub record Allows (s : Surroundings) (w : World) (generation : ℕ) (config : En
   pub datagrams : IsPrefix (map packet (r.grams ++ ev.grams)) o.grams
   pub peer : IfSome ev.came (λ p. o.peer ≡ Some p)
   pub outer' : OuterFits (basis_of w) generation config o ev r
-  pub faults' : FaultsAre o ev used
-  pub client_end : ev.stop ≡ None → EndFits ev.fault ev.end_c (ComesToEnd o.c (r.c ++ ev.c) o.end_c r.end_c ev.c (¬ Contains used (Object.Client, CallKind.Reading))
+  pub faults' : FaultsAre o ev (can_fail_in (basis_of w) (taken (basis_of w) generation config.methods ev r) (behind_turn w ev))
+  pub client_end : ev.stop ≡ None → EndFits ev.fault ev.end_c (ComesToEnd o.c (r.c ++ ev.c) o.end_c r.end_c ev.c (is_among ev.failed (Object.Client, CallKind.Reading) ≡ false)
       (Meets (basis_of w) generation config ev r (behind_turn w ev) (reads_client (basis_of w) ev.idle ev.full) waiting_for_target))
-  pub target_end : ev.stop ≡ None → EndFits ev.fault ev.end_t (ComesToEnd o.t (r.t ++ ev.t) o.end_t r.end_t ev.t (¬ Contains used (Object.Target, CallKind.Reading))
+  pub target_end : ev.stop ≡ None → EndFits ev.fault ev.end_t (ComesToEnd o.t (r.t ++ ev.t) o.end_t r.end_t ev.t (is_among ev.failed (Object.Target, CallKind.Reading) ≡ false)
       (Meets (basis_of w) generation config ev r (behind_turn w ev) reads_target waiting_for_client))
   pub client_rests : IsTrue (holds Object.Client ev.idle) → (r.c ++ ev.c ≡ o.c) × (o.end_c ≡ false)
   pub target_rests : IsTrue (holds Object.Target ev.idle) → (r.t ++ ev.t ≡ o.t) × (o.end_t ≡ false)
@@ -126,7 +107,7 @@ pub record Allows (s : Surroundings) (w : World) (generation : ℕ) (config : En
   pub room_c : IsTrue (holds Object.Client o.no_room) → ev.sent_c ≡ 0
   pub room_t : IsTrue (holds Object.Target o.no_room) → ev.sent_t ≡ 0
 
-pub record IsTurnOf (s : Surroundings) (w : World) (worker a : ℕ) (ev : TurnEvent) (used : List Failing) : Type 0 where
+pub record IsTurnOf (s : Surroundings) (w : World) (worker a : ℕ) (ev : TurnEvent) : Type 0 where
   pub worker' : ev.worker ≡ worker
   pub number : ev.number ≡ a
   pub generation : ℕ
@@ -137,23 +118,23 @@ pub record IsTurnOf (s : Surroundings) (w : World) (worker a : ℕ) (ev : TurnEv
   pub there : numbered s.outsides a ≡ Some outside
   pub begun : Record
   pub stood : numbered w.records a ≡ Some begun
-  pub allowed : Allows s w generation config outside ev used begun
+  pub allowed : Allows s w generation config outside ev begun
 
--- the event of a line that has one, with its failed calls
-abbrev pub IsEventOf : Surroundings → World → ScriptLine → Event → List Failing → Type 0
-IsEventOf s w (ScriptLine.Publish k) e used = e ≡ Event.Publish k
-IsEventOf s w (ScriptLine.See worker) e used = e ≡ Event.See worker (length w.pubs)
-IsEventOf s w (ScriptLine.Open worker a peer local) e used = e ≡ Event.Open worker a peer local s.now
-IsEventOf s w (ScriptLine.Turn worker a) e used = (ev : TurnEvent) × (e ≡ Event.Turn ev) × IsTurnOf s w worker a ev used
-IsEventOf s w ScriptLine.Stop e used = e ≡ Event.Stop StopBy.Control
-IsEventOf s w line e used = ⊥
+-- the event of a line that has one
+abbrev pub IsEventOf : Surroundings → World → ScriptLine → Event → Type 0
+IsEventOf s w (ScriptLine.Publish k) e = e ≡ Event.Publish k
+IsEventOf s w (ScriptLine.See worker) e = e ≡ Event.See worker (length w.pubs)
+IsEventOf s w (ScriptLine.Open worker a peer local) e = e ≡ Event.Open worker a peer local s.now
+IsEventOf s w (ScriptLine.Turn worker a) e = (ev : TurnEvent) × (e ≡ Event.Turn ev) × IsTurnOf s w worker a ev
+IsEventOf s w ScriptLine.Stop e = e ≡ Event.Stop StopBy.Control
+IsEventOf s w line e = ⊥
 
 -- round after round: whose turn comes in this round, and whether the round was still so far
 pub data Rounds : Surroundings → World → List ℕ → Bool → List Event → Type 0 where
   over : {s : Surroundings} {w : World} {still : Bool} → Rounds s w [] still []
-  round : {s : Surroundings} {w new : World} {n : ℕ} {ns : List ℕ} {still : Bool} {ev : TurnEvent} {es : List Event} (used : List Failing)
-      → IsTurnOf s w 1 n ev used → step w (Event.Turn ev) ≡ Some new
-      → Rounds (used_up s ev used) new (next_in_round ns (still && is_still ev) (Some new)).0 (next_in_round ns (still && is_still ev) (Some new)).1 es
+  round : {s : Surroundings} {w new : World} {n : ℕ} {ns : List ℕ} {still : Bool} {ev : TurnEvent} {es : List Event}
+      → IsTurnOf s w 1 n ev → step w (Event.Turn ev) ≡ Some new
+      → Rounds (used_up s ev) new (next_in_round ns (still && is_still ev) (Some new)).0 (next_in_round ns (still && is_still ev) (Some new)).1 es
       → Rounds s w (n ∷ ns) still (Event.Turn ev ∷ es)
 
 -- behind the last line worker 1 sees, if anything was published, and the rounds begin
@@ -167,9 +148,9 @@ pub data Follows : Surroundings → World → List ScriptLine → List Event →
   ends : {s : Surroundings} {w : World} {rounds : List Event} → Closing s w rounds → Follows s w [] [] rounds
   silent : {s : Surroundings} {w : World} {line : ScriptLine} {lines : List ScriptLine} {es rounds : List Event}
       → is_silent w line ≡ true → Follows (outside_after s line) w lines es rounds → Follows s w (line ∷ lines) es rounds
-  happens : {s : Surroundings} {w new : World} {line : ScriptLine} {lines : List ScriptLine} {e : Event} {es rounds : List Event} (used : List Failing)
-      → is_silent w line ≡ false → IsEventOf (outside_after s line) w line e used → step w e ≡ Some new
-      → Follows (surroundings_after (outside_after s line) e used) new lines es rounds → Follows s w (line ∷ lines) (e ∷ es) rounds
+  happens : {s : Surroundings} {w new : World} {line : ScriptLine} {lines : List ScriptLine} {e : Event} {es rounds : List Event}
+      → is_silent w line ≡ false → IsEventOf (outside_after s line) w line e → step w e ≡ Some new
+      → Follows (surroundings_after (outside_after s line) e) new lines es rounds → Follows s w (line ∷ lines) (e ∷ es) rounds
 
 -- ---- the world in which a script begins
 

@@ -20,6 +20,7 @@ pub mod PhaseFacts
 pub mod Ranges
 pub mod Relaying
 pub mod Replies
+pub mod SameConfig
 pub mod Script
 pub mod Settle
 pub mod Socks

@@ -1,8 +1,7 @@
 -- Which events a script allows: its lines in order, and then the closing rounds.
-use Rattle.std.specs.Prelude.{ℕ, zero, suc, ◌+◌, Bool, true, false, ◌&&◌, ◌||◌, not, ◌==◌, nat_lt, nat_le, if◌then◌else◌, Option, Some, None, List, [], ◌∷◌, ◌++◌, length, take, filter, slice_get, bytes_eq, is_some, is_none, option_map, option_and_then}
+use Rattle.std.specs.Prelude.{ℕ, zero, suc, ◌+◌, Bool, true, false, ◌&&◌, ◌||◌, not, ◌==◌, nat_lt, nat_le, if◌then◌else◌, Option, Some, None, List, [], ◌∷◌, ◌++◌, length, take, filter, slice_get, bytes_eq, is_some, is_none}
 use Rattle.std.specs.List.{list_any, list_all}
 use Rattle.addr_pattern.specs.declared.endpoint.Endpoint.{Endpoint}
-use Rattle.addr_pattern.specs.declared.addr.Addr.{Addr}
 use Rattle.conf_types.specs.declared.entries.Entries.{Entries}
 use Rattle.socks_machine.specs.declared.cause.StopBy.{StopBy}
 use Rattle.socks_machine.specs.declared.record.Gram.{Gram}
@@ -23,7 +22,9 @@ use Rattle.socks_machine.specs.Step.{basis_of, set_numbered, step}
 use Rattle.socks_machine.specs.Taking.{◌>>=◌, holds, some_in, pipe_size, taken, reads_target, reads_client}
 use Rattle.socks_machine.specs.Owed.{waiting_for_target, waiting_for_client}
 use Rattle.socks_grammar.specs.declared.protocol.Command.{Command}
-use Rattle.socks_machine.specs.Turn.{quantum}
+use Rattle.socks_machine.specs.FailedCalls.{Failing, can_fail}
+use Rattle.socks_machine.specs.SameConfig.{bool_eq, entries_eq, option_eq}
+use Rattle.socks_machine.specs.Turn.{quantum, is_link}
 use Rattle.socks_machine.specs.declared.script.CallKind.{CallKind}
 use Rattle.socks_machine.specs.declared.script.ScriptLine.{ScriptLine}
 
@@ -108,13 +109,10 @@ peer_is None arrived = true
 peer_is (Some p) None = false
 peer_is (Some p) (Some x) = endpoint_eq p x
 
-abbrev pub addr_option_eq : Option Addr → Option Addr → Bool
-addr_option_eq None None = true
-addr_option_eq (Some a) (Some b) = addr_eq a b
-addr_option_eq _ _ = false
-
 abbrev pub outer_eq : Outer → Outer → Bool
-outer_eq (Outer.Looked a) (Outer.Looked b) = addr_option_eq a b
+outer_eq Outer.Nothing Outer.Nothing = true
+outer_eq (Outer.Desk a) (Outer.Desk b) = bool_eq a b
+outer_eq (Outer.Looked a) (Outer.Looked b) = option_eq addr_eq a b
 outer_eq (Outer.Up a) (Outer.Up b) = endpoint_eq a b
 outer_eq Outer.Refused Outer.Refused = true
 outer_eq Outer.HostUnreachable Outer.HostUnreachable = true
@@ -122,20 +120,11 @@ outer_eq Outer.NetUnreachable Outer.NetUnreachable = true
 outer_eq Outer.Failed Outer.Failed = true
 outer_eq _ _ = false
 
--- the desk's line is written or not, as the log has it; no call is always possible
-abbrev pub outer_is : Outer → Outer → Bool
-outer_is Outer.Nothing wanted = true
-outer_is (Outer.Desk logged) wanted = true
-outer_is outer wanted = outer_eq outer wanted
-
 abbrev pub is_fault : Object → CallKind → Object × CallKind → Bool
 is_fault o CallKind.Reading (x, CallKind.Reading) = object_eq o x
 is_fault o CallKind.Writing (x, CallKind.Writing) = object_eq o x
 is_fault o CallKind.Shutting (x, CallKind.Shutting) = object_eq o x
 is_fault o _ _ = false
-
-abbrev pub is_due : Outside → Object → CallKind → Bool
-is_due o object kind = list_any (is_fault object kind) o.faults
 
 -- a call of this kind was made in the turn, and didn't fail
 abbrev pub was_read : TurnEvent → Object → Bool
@@ -160,41 +149,28 @@ did ev (o, CallKind.Reading) = was_read ev o
 did ev (o, CallKind.Writing) = was_written ev o
 did ev (o, CallKind.Shutting) = was_shut ev o
 
--- the first call of this kind on this object behind the line fails, so none of the turn succeeded
-abbrev pub fails : Outside → TurnEvent → Object → CallKind → Bool
-fails o ev x kind = is_due o x kind && not (did ev (x, kind))
+-- whether a call is among these
+abbrev pub is_among : List Failing → Failing → Bool
+is_among fs f = list_any (is_fault f.0 f.1) fs
 
--- which kind of call it was that failed first
-abbrev pub failed_kind : Outside → TurnEvent → Object → Option CallKind
-failed_kind o ev x =
-    if ev.unwritten && fails o ev x CallKind.Writing then Some CallKind.Writing
-    else (if fails o ev x CallKind.Reading then Some CallKind.Reading
-    else (if fails o ev x CallKind.Shutting then Some CallKind.Shutting else (if fails o ev x CallKind.Writing then Some CallKind.Writing else None)))
+-- a write to a link
+abbrev pub writes_link : Failing → Bool
+writes_link (x, CallKind.Writing) = is_link x
+writes_link (x, k) = false
 
-abbrev pub fault_in : Outside → TurnEvent → Option (Object × CallKind)
-fault_in o ev = option_and_then (λ x. option_map (λ k. (x, k)) (failed_kind o ev x)) ev.fault
+-- the object whose call failed first is among them; none failed where there is no such object
+abbrev pub has_first : Option Object → List Failing → Bool
+has_first None failed = not (some_in failed)
+has_first (Some x) failed = list_any (λ (f : Failing). object_eq x f.0) failed
 
-abbrev pub fault_is : Outside → TurnEvent → Option Object → Bool
-fault_is o ev None = not (list_any (did ev) o.faults)
-fault_is o ev (Some x) = is_some (failed_kind o ev x) && not (list_any (did ev) o.faults)
-
--- a read of this side failed
-abbrev pub read_failed : Object → Option (Object × CallKind) → Bool
-read_failed o None = false
-read_failed o (Some (x, CallKind.Reading)) = object_eq o x
-read_failed o (Some (x, _)) = false
-
-abbrev pub iff : Bool → Bool → Bool
-iff true b = b
-iff false b = not b
+-- each can have failed in the turn, by the record behind what it takes and the record that it leaves
+abbrev pub can_fail_in : Basis → Option Record → Option Record → Failing → Bool
+can_fail_in basis (Some taken) (Some left) f = can_fail basis taken left f
+can_fail_in basis _ _ f = false
 
 -- the record behind what is taken, but for the ends
 abbrev pub without_ends : TurnEvent → TurnEvent
 without_ends ev = record ev { end_c = false; end_t = false }
-
-abbrev pub reads_on : Basis → TurnEvent → (Record → Phase → Bool) → Option Record → Bool
-reads_on basis ev reads None = false
-reads_on basis ev reads (Some r) = reads r (phase basis r)
 
 -- the record behind the turn
 abbrev pub behind_turn : World → TurnEvent → Option Record
@@ -204,35 +180,46 @@ abbrev pub is_relay : Phase → Bool
 is_relay Phase.Relay = true
 is_relay _ = false
 
--- in Relay fewer bytes wait at the turn's end than a pipe holds
-abbrev pub pipe_has_room : Basis → (Basis → Record → ℕ) → Option Record → Option Record → Bool
-pipe_has_room basis waiting (Some behind) (Some left) = not (is_relay (phase basis behind)) || nat_lt (waiting basis left) pipe_size
-pipe_has_room basis waiting _ _ = true
+abbrev pub has_room : Basis → (Basis → Record → ℕ) → Option Record → Bool
+has_room basis waiting None = true
+has_room basis waiting (Some left) = nat_lt (waiting basis left) pipe_size
+
+-- the phase that is met behind all that is taken, but for the ends, reads this side; in Relay fewer bytes of it wait at the
+-- turn's end than a pipe holds
+abbrev pub meets : Basis → (Record → Phase → Bool) → (Basis → Record → ℕ) → Option Record → Option Record → Bool
+meets basis reads waiting None left = false
+meets basis reads waiting (Some behind) left = reads behind (phase basis behind) && (not (is_relay (phase basis behind)) || has_room basis waiting left)
+
+-- the end stands, and isn't read yet, and the turn takes all before it and less than a quantum
+abbrev pub comes_to_end : List ℕ → List ℕ → Bool → Bool → List ℕ → Bool → Bool → Bool
+comes_to_end arrived there ended was part passes reads =
+    ended && not was && bytes_eq there arrived && nat_lt (length part) quantum && passes && reads
 
 -- Without a failed call an end is read exactly where the turn comes to it. A call on another object, or of another kind,
 -- may have failed before it was read, or behind it.
-abbrev pub end_fits : TurnEvent → Bool → Bool → Bool
-end_fits ev read comes = if is_none ev.fault then iff read comes else (not read || comes)
+abbrev pub end_fits : Option Object → Bool → Bool → Bool
+end_fits None read comes = bool_eq read comes
+end_fits (Some x) read comes = not read || comes
 
-abbrev pub ends_are_read : Basis → ℕ → Entries → Outside → TurnEvent → Record → Option Record → Bool
-ends_are_read basis generation config o ev r left =
-    end_fits ev ev.end_c (o.end_c && not r.end_c && (length r.c + length ev.c == length o.c) && nat_lt (length ev.c) quantum
-    && not (read_failed Object.Client (fault_in o ev))
-    && pipe_has_room basis waiting_for_target (taken basis generation config.methods (without_ends ev) r) left
-    && reads_on basis ev (reads_client basis ev.idle ev.full) (taken basis generation config.methods (without_ends ev) r))
-    && end_fits ev ev.end_t (o.end_t && not r.end_t && (length r.t + length ev.t == length o.t) && nat_lt (length ev.t) quantum
-    && not (read_failed Object.Target (fault_in o ev))
-    && pipe_has_room basis waiting_for_client (taken basis generation config.methods (without_ends ev) r) left
-    && reads_on basis ev reads_target (taken basis generation config.methods (without_ends ev) r))
+abbrev pub client_end_fits : Basis → ℕ → Entries → Outside → TurnEvent → Record → Option Record → Bool
+client_end_fits basis generation config o ev r left = end_fits ev.fault ev.end_c (comes_to_end o.c (r.c ++ ev.c) o.end_c r.end_c ev.c
+    (not (is_among ev.failed (Object.Client, CallKind.Reading)))
+    (meets basis (reads_client basis ev.idle ev.full) waiting_for_target (taken basis generation config.methods (without_ends ev) r) left))
 
--- a source answers NotYet only where all that arrived was taken, and a sink only without room
-abbrev pub idles_are : Outside → TurnEvent → Record → Bool
-idles_are o ev r =
-    (not (holds Object.Client ev.idle) || (not o.end_c && (length r.c + length ev.c == length o.c)))
-    && (not (holds Object.Target ev.idle) || (not o.end_t && (length r.t + length ev.t == length o.t)))
-    && (not (holds Object.Door ev.idle) || is_none o.peer)
-    && (not (holds Object.Port ev.idle) || (length r.grams + length ev.grams == length o.grams))
-    && list_all (λ x. holds x o.no_room) ev.full
+abbrev pub target_end_fits : Basis → ℕ → Entries → Outside → TurnEvent → Record → Option Record → Bool
+target_end_fits basis generation config o ev r left = end_fits ev.fault ev.end_t (comes_to_end o.t (r.t ++ ev.t) o.end_t r.end_t ev.t
+    (not (is_among ev.failed (Object.Target, CallKind.Reading)))
+    (meets basis reads_target waiting_for_client (taken basis generation config.methods (without_ends ev) r) left))
+
+-- these datagrams are all that arrived
+abbrev pub same_grams : List Gram → List (Endpoint × List ℕ) → Bool
+same_grams [] [] = true
+same_grams (d ∷ ds) (x ∷ xs) = endpoint_eq d.peer x.0 && bytes_eq d.bytes x.1 && same_grams ds xs
+same_grams _ _ = false
+
+-- a source answers NotYet only where all that arrived was taken
+abbrev pub rests_where : Bool → Bool → Bool
+rests_where rests all = not rests || all
 
 abbrev pub stop_is : Option StopBy → Option StopBy → Bool
 stop_is None None = true
@@ -244,34 +231,48 @@ reached_as o Command.Connect = o.dial
 reached_as o Command.Bind = o.door
 reached_as o _ = o.port
 
--- the outcome that the outside has for the call of the phase behind the takings
+-- the outcome that the outside has for the call of the phase behind the takings; the desk's line is written or not, as the log
+-- has it, and no call is always possible
 abbrev pub outer_fits_in : Outside → Outer → Phase → Bool
-outer_fits_in o outer (Phase.Seek name) = outer_is outer o.lookup
-outer_fits_in o outer (Phase.Reach g) = outer_is outer (reached_as o g.facts.command)
-outer_fits_in o outer _ = outer_is outer Outer.Nothing
+outer_fits_in o Outer.Nothing p = true
+outer_fits_in o (Outer.Desk logged) p = true
+outer_fits_in o outer (Phase.Seek name) = outer_eq outer o.lookup
+outer_fits_in o outer (Phase.Reach g) = outer_eq outer (reached_as o g.facts.command)
+outer_fits_in o outer p = false
 
 abbrev pub outer_fits : Basis → Outside → Outer → Option Record → Bool
 outer_fits basis o outer None = false
 outer_fits basis o outer (Some r) = outer_fits_in o outer (phase basis r)
 
--- nothing is sent to a link without room
-abbrev pub rooms_are : Outside → TurnEvent → Bool
-rooms_are o ev = (not (holds Object.Client o.no_room) || (ev.sent_c == 0)) && (not (holds Object.Target o.no_room) || (ev.sent_t == 0))
+-- The failed calls of a turn. A line names each, and no call that a line names has succeeded. The one that failed first is
+-- among them, and a write to a link is exactly where the turn says so.
+abbrev pub faults_are : Outside → TurnEvent → (Failing → Bool) → Bool
+faults_are o ev can =
+    list_all (is_among o.faults) ev.failed && not (list_any (did ev) o.faults) && list_all can ev.failed
+    && has_first ev.fault ev.failed && bool_eq ev.unwritten (list_any writes_link ev.failed)
 
 abbrev pub allows : Surroundings → World → ℕ → Entries → Outside → TurnEvent → Record → Bool
 allows s w generation config o ev r =
     (ev.now == s.now) && stop_is ev.stop (last_mark w.marks) && not (mark_eq ev.next NextMark.Going)
     && starts_with (r.c ++ ev.c) o.c && starts_with (r.t ++ ev.t) o.t && all_grams (r.grams ++ ev.grams) o.grams
     && peer_is ev.came o.peer && outer_fits (basis_of w) o ev.outer (taken (basis_of w) generation config.methods ev r)
-    && fault_is o ev ev.fault && (if is_some ev.stop then true else ends_are_read (basis_of w) generation config o ev r (behind_turn w ev))
-    && idles_are o ev r && rooms_are o ev
+    && faults_are o ev (can_fail_in (basis_of w) (taken (basis_of w) generation config.methods ev r) (behind_turn w ev))
+    && (is_some ev.stop || client_end_fits (basis_of w) generation config o ev r (behind_turn w ev))
+    && (is_some ev.stop || target_end_fits (basis_of w) generation config o ev r (behind_turn w ev))
+    && rests_where (holds Object.Client ev.idle) (bytes_eq (r.c ++ ev.c) o.c && not o.end_c)
+    && rests_where (holds Object.Target ev.idle) (bytes_eq (r.t ++ ev.t) o.t && not o.end_t)
+    && rests_where (holds Object.Door ev.idle) (is_none o.peer)
+    && rests_where (holds Object.Port ev.idle) (same_grams (r.grams ++ ev.grams) o.grams)
+    && list_all (λ x. holds x o.no_room) ev.full
+    && rests_where (holds Object.Client o.no_room) (ev.sent_c == 0) && rests_where (holds Object.Target o.no_room) (ev.sent_t == 0)
+
+-- .. where the worker has seen a generation that was published, and the association is there
+abbrev pub allows_by : Surroundings → World → TurnEvent → ℕ → Outside → Record → Option Entries → Bool
+allows_by s w ev generation o r None = false
+allows_by s w ev generation o r (Some config) = allows s w generation config o ev r
 
 abbrev pub allows_in : Surroundings → World → TurnEvent → Option ℕ → Option Outside → Option Record → Bool
-allows_in s w ev (Some generation) (Some o) (Some r) = by_config (numbered w.pubs generation)
-  where
-    by_config : Option Entries → Bool
-    by_config None = false
-    by_config (Some config) = allows s w generation config o ev r
+allows_in s w ev (Some generation) (Some o) (Some r) = allows_by s w ev generation o r (numbered w.pubs generation)
 allows_in s w ev _ _ _ = false
 
 abbrev pub is_turn : Surroundings → World → ℕ → ℕ → TurnEvent → Bool
@@ -279,13 +280,9 @@ is_turn s w worker a ev =
     (ev.worker == worker) && (ev.number == a)
     && allows_in s w ev (slice_get w.seen worker) (numbered s.outsides a) (numbered w.records a)
 
--- the fault that a turn met is used up
-abbrev pub without_fault : Option (Object × CallKind) → List (Object × CallKind) → List (Object × CallKind)
-without_fault None faults = faults
-without_fault (Some (x, k)) faults = filter (λ f. not (is_fault x k f)) faults
-
+-- the calls that failed are used up, and so is the peer that was met
 abbrev pub used_up : Surroundings → TurnEvent → Surroundings
-used_up s ev = change s ev.number (λ o. record o { faults = without_fault (fault_in o ev) o.faults; peer = (if is_some ev.came then None else o.peer) })
+used_up s ev = change s ev.number (λ o. record o { faults = filter (λ f. not (is_among ev.failed f)) o.faults; peer = (if is_some ev.came then None else o.peer) })
 
 -- ---- the script
 
@@ -330,12 +327,12 @@ abbrev pub closing : Surroundings → World → List Entries → List Event → 
 closing s w [] [] = true
 closing s w [] (e ∷ es) = false
 closing s w (k ∷ ks) (Event.See worker generation ∷ es) =
-    (worker == 1) && (generation == length w.pubs)
-    && rounds s (step w (Event.See worker generation)) (going_after (step w (Event.See worker generation))) true es
+    (worker == 1) && (generation == length w.pubs) && rounds s (step w (Event.See 1 (length w.pubs))) (going_after (step w (Event.See 1 (length w.pubs)))) true es
 closing s w (k ∷ ks) es = false
 
 -- the event of a line that has one
 abbrev pub is_event_of : Surroundings → World → ScriptLine → Event → Bool
+is_event_of s w (ScriptLine.Publish k) (Event.Publish k') = entries_eq k k'
 is_event_of s w (ScriptLine.See worker) (Event.See v generation) = (worker == v) && (generation == length w.pubs)
 is_event_of s w (ScriptLine.Open worker a peer local) (Event.Open v b peer' local' now) =
     (worker == v) && (a == b) && endpoint_eq peer peer' && endpoint_eq local local' && (now == s.now)
@@ -356,17 +353,15 @@ is_silent w (ScriptLine.Turn worker a) = is_over (numbered w.records a)
 is_silent w ScriptLine.Stop = false
 is_silent w line = true
 
--- the events are the script's lines in order, and then the closing rounds. A published text is compared by its reading,
--- which the script has in its place
+-- the events are the script's lines in order, and then the closing rounds
 abbrev pub follows : Surroundings → Option World → List ScriptLine → List Event → Bool
 follows s None lines es = false
 follows s (Some w) [] es = closing s w w.pubs es
-follows s (Some w) (ScriptLine.Publish k ∷ lines) (Event.Publish k' ∷ es) = follows s (step w (Event.Publish k)) lines es
 follows s (Some w) (line ∷ lines) [] = is_silent w line && follows (outside_after s line) (Some w) lines []
 follows s (Some w) (line ∷ lines) (e ∷ es) =
     elim (is_silent w line) [
       | true ↦ follows (outside_after s line) (Some w) lines (e ∷ es)
-      | false ↦ is_event_of s w line e && follows (surroundings_after (outside_after s line) e) (step w e) lines es
+      | false ↦ is_event_of (outside_after s line) w line e && follows (surroundings_after (outside_after s line) e) (step w e) lines es
     ]
 
 abbrev pub first_surroundings : Surroundings

@@ -4,6 +4,7 @@ ghost use Rattle.socks_machine.specs.Turn.{fault_cause};
 use crate::cause::{Cause, StopBy};
 use crate::lines::Line;
 use crate::record::{Gram, Record};
+use crate::script::CallKind;
 use addr_pattern::{Addr, Endpoint};
 use conf_types::Config;
 use lists::{List, Text};
@@ -54,7 +55,8 @@ pub enum NextMark {
     Done,
 }
 
-/// One turn of one worker on one association.
+/// One turn of one worker on one association. `fault` is the object whose call failed first, `failed` has each call that failed,
+/// and `unwritten` says whether a write to a link is among them.
 #[derive(Drop)]
 pub struct TurnEvent {
     pub worker: u32,
@@ -77,6 +79,7 @@ pub struct TurnEvent {
     pub full: List<Object>,
     pub fault: Option<Object>,
     pub unwritten: bool,
+    pub failed: List<(Object, CallKind)>,
     pub memory: bool,
     pub next: NextMark,
 }

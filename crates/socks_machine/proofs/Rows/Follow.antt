@@ -1,125 +1,100 @@
--- A script that the relation allows: it promises something.
-use Rattle.std.proofs.Common.{zero, suc, ◌≡◌, refl, true, false, Some, List, [], ◌∷◌, ◌++◌, arith}
-use Rattle.std.specs.Prelude.{All, Contains, IsTrue}
+-- A script that the relation allows, and scripts whose events are lawful and yet not allowed.
+use Rattle.std.proofs.Common.{ℕ, ◌≡◌, refl, true, false, Some, is_some, List, [], ◌∷◌, ◌++◌}
+use Rattle.socks_machine.specs.declared.script.CallKind.{CallKind}
+use Rattle.socks_machine.specs.declared.script.ScriptLine.{ScriptLine}
+use Rattle.socks_machine.specs.declared.world.Event.{Event}
+use Rattle.socks_machine.specs.declared.world.NextMark.{NextMark}
 use Rattle.socks_machine.specs.declared.world.Object.{Object}
 use Rattle.socks_machine.specs.declared.world.Outer.{Outer}
-use Rattle.socks_machine.specs.declared.world.NextMark.{NextMark}
-use Rattle.socks_machine.specs.declared.world.TurnEvent.{TurnEvent}
-use Rattle.socks_machine.specs.declared.world.Event.{Event}
-use Rattle.socks_machine.specs.Follows.{Follows, Closing, Rounds, Failing, begins}
-use Rattle.socks_machine.specs.Script.{first_surroundings, follows, did}
-use Rattle.socks_machine.specs.declared.script.ScriptLine.{ScriptLine}
-use Rattle.socks_machine.specs.declared.script.CallKind.{CallKind}
-use Rattle.socks_machine.specs.Taking.{holds}
-use Rattle.socks_machine.proofs.Rows.Shared.{all_pass, quiet, client_at, local_at}
+use Rattle.socks_machine.specs.Follows.{Follows, begins}
+use Rattle.socks_machine.specs.Script.{first_surroundings, follows}
+use Rattle.socks_machine.specs.Step.{run, start}
+use Rattle.socks_machine.proofs.FollowLaws.{Split, follows-complete, follows-sound}
+use Rattle.socks_machine.proofs.Rows.Shared.{all_pass, at4, client_at, local_at, quiet}
 
+-- a read fails in the talk
 abbrev script : List ScriptLine
 script =
     ScriptLine.Publish all_pass ∷ ScriptLine.See 1 ∷ ScriptLine.Open 1 1 client_at local_at ∷ ScriptLine.Turn 1 1
     ∷ ScriptLine.Fault 1 Object.Client CallKind.Reading ∷ ScriptLine.Turn 1 1 ∷ []
 
-abbrev ev1 : TurnEvent
-ev1 = record (quiet 1 1 0) { outer = Outer.Desk true; next = NextMark.Again }
-
-abbrev ev2 : TurnEvent
-ev2 = record (quiet 1 1 0) { fault = Some Object.Client; outer = Outer.Desk true; next = NextMark.Done }
+abbrev first_events : List Event
+first_events = Event.Publish all_pass ∷ Event.See 1 1 ∷ Event.Open 1 1 client_at local_at 0 ∷ Event.Turn (record (quiet 1 1 0) { outer = Outer.Desk true; next = NextMark.Again }) ∷ []
 
 abbrev events : List Event
-events = Event.Publish all_pass ∷ Event.See 1 1 ∷ Event.Open 1 1 client_at local_at 0 ∷ Event.Turn ev1 ∷ Event.Turn ev2 ∷ []
+events =
+    first_events ++ Event.Turn (record (quiet 1 1 0) { fault = Some Object.Client; failed = (Object.Client, CallKind.Reading) ∷ []; outer = Outer.Desk true; next = NextMark.Done }) ∷ Event.See 1 1 ∷ []
 
-by-tests : follows first_surroundings (Some (begins script)) script (events ++ Event.See 1 1 ∷ []) ≡ true
-by-tests = refl
+allowed : Split first_surroundings (begins script) script events
+allowed = follows-sound script first_surroundings (begins script) events refl
 
-none_of : {X : Type 0} (P : X → Type 0) → All P []
-none_of P k d h = absurd (omega (arith, h))
+-- another configuration than the script's isn't published
+other_config : follows first_surroundings (Some (begins script)) script (Event.Publish (record all_pass { io = 7 }) ∷ Event.See 1 1 ∷ Event.Open 1 1 client_at local_at 0
+    ∷ Event.Turn (record (quiet 1 1 0) { outer = Outer.Desk true; next = NextMark.Again })
+    ∷ Event.Turn (record (quiet 1 1 0) { fault = Some Object.Client; failed = (Object.Client, CallKind.Reading) ∷ []; outer = Outer.Desk true; next = NextMark.Done }) ∷ Event.See 1 1 ∷ []) ≡ false
+other_config = refl
 
-abbrev failing : List Failing
-failing = (Object.Client, CallKind.Reading) ∷ []
+-- the call that failed is no write
+not_unwritten : follows first_surroundings (Some (begins script)) script
+    (first_events ++ Event.Turn (record (quiet 1 1 0) { fault = Some Object.Client; failed = (Object.Client, CallKind.Writing) ∷ []; outer = Outer.Desk true; next = NextMark.Done }) ∷ Event.See 1 1 ∷ []) ≡ false
+not_unwritten = refl
 
-named : All (Contains failing) failing
-named zero d h = (0, omega arith, refl)
-named (suc k) d h = absurd (omega (arith, h))
+-- ---- the turn of a grant reads nothing more, so no read fails in it
 
-undone : All (λ f. did ev2 f ≡ false) failing
-undone zero d h = refl
-undone (suc k) d h = absurd (omega (arith, h))
+abbrev request : List ℕ
+request = 0x05 ∷ 0x01 ∷ 0x00 ∷ 0x05 ∷ 0x01 ∷ 0x00 ∷ 0x01 ∷ 0xC6 ∷ 0x33 ∷ 0x64 ∷ 0x0A ∷ 0x00 ∷ 0x50 ∷ []
 
-allowed : Follows first_surroundings (begins script) script events (Event.See 1 1 ∷ [])
-allowed =
-    Follows.happens [] refl refl refl
-    (Follows.happens [] refl refl refl
-    (Follows.happens [] refl refl refl
-    (Follows.happens [] refl (
-      ev1,
-      refl,
-      record {
-        worker' = refl;
-        number = refl;
-        generation = 1;
-        saw = refl;
-        config = all_pass;
-        published = refl;
-        outside = _;
-        there = refl;
-        begun = _;
-        stood = refl;
-        allowed = record {
-          moment = refl;
-          stop' = refl;
-          ends = λ h. cc;
-          client = (_, refl);
-          target = (_, refl);
-          datagrams = (_, refl);
-          peer = tt;
-          outer' = record { behind = _; taken' = refl; is = tt };
-          faults' = record { named = none_of (Contains []); undone = none_of (λ f. did ev1 f ≡ false); none = λ h. refl; first = tt; unwritten = (λ h. h, λ h. h) };
-          client_end = λ h. (λ x. cc, λ c. let e : false ≡ true = c.stands in cc);
-          target_end = λ h. (λ x. cc, λ c. let e : false ≡ true = c.stands in cc);
-          client_rests = λ h. cc;
-          target_rests = λ h. cc;
-          door_rests = λ h. cc;
-          port_rests = λ h. cc;
-          no_room = none_of (λ x. IsTrue (holds x []));
-          room_c = λ h. refl;
-          room_t = λ h. refl;
-        };
-      },
-    ) refl
-    (Follows.silent refl
-    (Follows.happens ((Object.Client, CallKind.Reading) ∷ []) refl (
-      ev2,
-      refl,
-      record {
-        worker' = refl;
-        number = refl;
-        generation = 1;
-        saw = refl;
-        config = all_pass;
-        published = refl;
-        outside = _;
-        there = refl;
-        begun = _;
-        stood = refl;
-        allowed = record {
-          moment = refl;
-          stop' = refl;
-          ends = λ h. cc;
-          client = (_, refl);
-          target = (_, refl);
-          datagrams = (_, refl);
-          peer = tt;
-          outer' = record { behind = _; taken' = refl; is = tt };
-          faults' = record { named = named; undone = undone; none = λ h. cc; first = (CallKind.Reading, (0, omega arith, refl)); unwritten = (λ h. h, λ h. h) };
-          client_end = λ h x. cc;
-          target_end = λ h x. cc;
-          client_rests = λ h. cc;
-          target_rests = λ h. cc;
-          door_rests = λ h. cc;
-          port_rests = λ h. cc;
-          no_room = none_of (λ x. IsTrue (holds x []));
-          room_c = λ h. refl;
-          room_t = λ h. refl;
-        };
-      },
-    ) refl
-    (Follows.ends (Closing.closes (λ h. cc) refl Rounds.over)))))))
+abbrev reads_in_grant : List ScriptLine
+reads_in_grant =
+    ScriptLine.Publish all_pass ∷ ScriptLine.See 1 ∷ ScriptLine.Open 1 1 client_at local_at ∷ ScriptLine.Turn 1 1
+    ∷ ScriptLine.Client 1 request ∷ ScriptLine.Fault 1 Object.Client CallKind.Reading ∷ ScriptLine.Turn 1 1 ∷ []
+
+abbrev reads_in_grant_events : List Event
+reads_in_grant_events =
+    first_events
+    ++ Event.Turn (record (quiet 1 1 0) { c = request; fault = Some Object.Client; failed = (Object.Client, CallKind.Reading) ∷ []; outer = Outer.Desk true; next = NextMark.Again }) ∷ []
+
+reads_in_grant_lawful : is_some (run [] 256 1 reads_in_grant_events) ≡ true
+reads_in_grant_lawful = refl
+
+reads_in_grant_refused : (rest ends : List Event) → Follows first_surroundings (begins reads_in_grant) reads_in_grant (reads_in_grant_events ++ rest) ends → ⊥
+reads_in_grant_refused rest ends f = let e = follows-complete first_surroundings (begins reads_in_grant) reads_in_grant (reads_in_grant_events ++ rest) ends f in cc
+
+-- ---- a relay whose target hasn't ended doesn't shut the client, so that shut doesn't fail
+
+abbrev shuts_early : List ScriptLine
+shuts_early =
+    ScriptLine.Publish all_pass ∷ ScriptLine.See 1 ∷ ScriptLine.Open 1 1 client_at local_at ∷ ScriptLine.Dial 1 (Outer.Up (at4 0xC0000209 40000)) ∷ ScriptLine.Turn 1 1
+    ∷ ScriptLine.Client 1 request ∷ ScriptLine.Turn 1 1 ∷ ScriptLine.Turn 1 1 ∷ ScriptLine.Fault 1 Object.Client CallKind.Shutting ∷ ScriptLine.Turn 1 1 ∷ []
+
+abbrev shuts_early_events : List Event
+shuts_early_events =
+    first_events
+    ++ Event.Turn (record (quiet 1 1 0) { c = request; sent_c = 2; outer = Outer.Desk true; next = NextMark.Again })
+    ∷ Event.Turn (record (quiet 1 1 0) { outer = Outer.Up (at4 0xC0000209 40000); sent_c = 10; next = NextMark.Again })
+    ∷ Event.Turn (record (quiet 1 1 0) { fault = Some Object.Client; failed = (Object.Client, CallKind.Shutting) ∷ []; outer = Outer.Desk true; next = NextMark.Done })
+    ∷ []
+
+shuts_early_lawful : is_some (run [] 256 1 shuts_early_events) ≡ true
+shuts_early_lawful = refl
+
+shuts_early_refused : (rest ends : List Event) → Follows first_surroundings (begins shuts_early) shuts_early (shuts_early_events ++ rest) ends → ⊥
+shuts_early_refused rest ends f = let e = follows-complete first_surroundings (begins shuts_early) shuts_early (shuts_early_events ++ rest) ends f in cc
+
+-- .. and where the target has ended that shut may fail
+abbrev shuts_late : List ScriptLine
+shuts_late =
+    ScriptLine.Publish all_pass ∷ ScriptLine.See 1 ∷ ScriptLine.Open 1 1 client_at local_at ∷ ScriptLine.Dial 1 (Outer.Up (at4 0xC0000209 40000)) ∷ ScriptLine.Turn 1 1
+    ∷ ScriptLine.Client 1 request ∷ ScriptLine.Turn 1 1 ∷ ScriptLine.Turn 1 1 ∷ ScriptLine.TargetEnd 1 ∷ ScriptLine.Fault 1 Object.Client CallKind.Shutting ∷ ScriptLine.Turn 1 1 ∷ []
+
+abbrev shuts_late_events : List Event
+shuts_late_events =
+    first_events
+    ++ Event.Turn (record (quiet 1 1 0) { c = request; sent_c = 2; outer = Outer.Desk true; next = NextMark.Again })
+    ∷ Event.Turn (record (quiet 1 1 0) { outer = Outer.Up (at4 0xC0000209 40000); sent_c = 10; next = NextMark.Again })
+    ∷ Event.Turn (record (quiet 1 1 0) { end_t = true; idle = Object.Client ∷ []; fault = Some Object.Client; failed = (Object.Client, CallKind.Shutting) ∷ []; outer = Outer.Desk true; next = NextMark.Done })
+    ∷ Event.See 1 1
+    ∷ []
+
+shuts_late_allowed : Split first_surroundings (begins shuts_late) shuts_late shuts_late_events
+shuts_late_allowed = follows-sound shuts_late first_surroundings (begins shuts_late) shuts_late_events refl

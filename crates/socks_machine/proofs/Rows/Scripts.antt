@@ -103,7 +103,7 @@ target_fails_events =
     ∷ Event.Turn (record (quiet 1 1 0) { outer = Outer.Desk true; next = NextMark.Again })
     ∷ Event.Turn (record (quiet 1 1 0) { c = (0x05 ∷ 0x01 ∷ 0x00 ∷ 0x05 ∷ 0x01 ∷ 0x00 ∷ 0x01 ∷ 0xC6 ∷ 0x33 ∷ 0x64 ∷ 0x0A ∷ 0x00 ∷ 0x50 ∷ []); sent_c = 2; outer = Outer.Desk true; next = NextMark.Again })
     ∷ Event.Turn (record (quiet 1 1 0) { outer = Outer.Up (at4 0xC0000209 40000); sent_c = 10; next = NextMark.Again })
-    ∷ Event.Turn (record (quiet 1 1 0) { fault = Some Object.Target; outer = Outer.Desk true; next = NextMark.Done })
+    ∷ Event.Turn (record (quiet 1 1 0) { fault = Some Object.Target; failed = ((Object.Target, CallKind.Reading) ∷ []); outer = Outer.Desk true; next = NextMark.Done })
     ∷ Event.See 1 1
     ∷ []
 
@@ -292,7 +292,7 @@ read_late_events =
     ∷ Event.Turn (record (quiet 1 1 0) { outer = Outer.Desk true; next = NextMark.Again })
     ∷ Event.Turn (record (quiet 1 1 0) { c = (0x05 ∷ 0x01 ∷ 0x00 ∷ 0x05 ∷ 0x01 ∷ 0x00 ∷ 0x01 ∷ 0xC6 ∷ 0x33 ∷ 0x64 ∷ 0x0A ∷ 0x00 ∷ 0x50 ∷ []); sent_c = 2; outer = Outer.Desk true; next = NextMark.Again })
     ∷ Event.Turn (record (quiet 1 1 0) { outer = Outer.Up (at4 0xC0000209 40000); sent_c = 10; next = NextMark.Again })
-    ∷ Event.Turn (record (quiet 1 1 0) { c = (0x61 ∷ 0x62 ∷ []); sent_t = 2; idle = (Object.Target ∷ []); fault = Some Object.Client; outer = Outer.Desk true; next = NextMark.Done })
+    ∷ Event.Turn (record (quiet 1 1 0) { c = (0x61 ∷ 0x62 ∷ []); sent_t = 2; idle = (Object.Target ∷ []); fault = Some Object.Client; failed = ((Object.Client, CallKind.Reading) ∷ []); outer = Outer.Desk true; next = NextMark.Done })
     ∷ Event.See 1 1
     ∷ []
 
@@ -327,7 +327,7 @@ other_fault_events =
     ∷ Event.Turn (record (quiet 1 1 0) { outer = Outer.Desk true; next = NextMark.Again })
     ∷ Event.Turn (record (quiet 1 1 0) { c = (0x05 ∷ 0x01 ∷ 0x00 ∷ 0x05 ∷ 0x01 ∷ 0x00 ∷ 0x01 ∷ 0xC6 ∷ 0x33 ∷ 0x64 ∷ 0x0A ∷ 0x00 ∷ 0x50 ∷ []); sent_c = 2; outer = Outer.Desk true; next = NextMark.Again })
     ∷ Event.Turn (record (quiet 1 1 0) { outer = Outer.Up (at4 0xC0000209 40000); sent_c = 10; next = NextMark.Again })
-    ∷ Event.Turn (record (quiet 1 1 0) { c = (0x61 ∷ 0x62 ∷ []); sent_t = 2; idle = (Object.Target ∷ []); fault = Some Object.Client; outer = Outer.Desk true; next = NextMark.Done })
+    ∷ Event.Turn (record (quiet 1 1 0) { c = (0x61 ∷ 0x62 ∷ []); sent_t = 2; idle = (Object.Target ∷ []); fault = Some Object.Client; failed = ((Object.Client, CallKind.Reading) ∷ []); outer = Outer.Desk true; next = NextMark.Done })
     ∷ Event.See 1 1
     ∷ []
 
@@ -397,7 +397,7 @@ end_behind_write_events =
     ∷ Event.Turn (record (quiet 1 1 0) { outer = Outer.Desk true; next = NextMark.Again })
     ∷ Event.Turn (record (quiet 1 1 0) { c = (0x05 ∷ 0x01 ∷ 0x00 ∷ 0x05 ∷ 0x01 ∷ 0x00 ∷ 0x01 ∷ 0xC6 ∷ 0x33 ∷ 0x64 ∷ 0x0A ∷ 0x00 ∷ 0x50 ∷ []); sent_c = 2; outer = Outer.Desk true; next = NextMark.Again })
     ∷ Event.Turn (record (quiet 1 1 0) { outer = Outer.Up (at4 0xC0000209 40000); sent_c = 10; next = NextMark.Again })
-    ∷ Event.Turn (record (quiet 1 1 0) { t = (0x61 ∷ 0x62 ∷ []); idle = (Object.Client ∷ []); fault = Some Object.Client; unwritten = true; outer = Outer.Desk true; next = NextMark.Done })
+    ∷ Event.Turn (record (quiet 1 1 0) { t = (0x61 ∷ 0x62 ∷ []); idle = (Object.Client ∷ []); fault = Some Object.Client; unwritten = true; failed = ((Object.Client, CallKind.Writing) ∷ []); outer = Outer.Desk true; next = NextMark.Done })
     ∷ Event.See 1 1
     ∷ []
 
@@ -431,7 +431,7 @@ end_before_read_events =
     ∷ Event.Turn (record (quiet 1 1 0) { outer = Outer.Desk true; next = NextMark.Again })
     ∷ Event.Turn (record (quiet 1 1 0) { c = (0x05 ∷ 0x01 ∷ 0x00 ∷ 0x05 ∷ 0x01 ∷ 0x00 ∷ 0x01 ∷ 0xC6 ∷ 0x33 ∷ 0x64 ∷ 0x0A ∷ 0x00 ∷ 0x50 ∷ []); sent_c = 2; outer = Outer.Desk true; next = NextMark.Again })
     ∷ Event.Turn (record (quiet 1 1 0) { outer = Outer.Up (at4 0xC0000209 40000); sent_c = 10; next = NextMark.Again })
-    ∷ Event.Turn (record (quiet 1 1 0) { end_c = true; shut_t = true; fault = Some Object.Target; outer = Outer.Desk true; next = NextMark.Done })
+    ∷ Event.Turn (record (quiet 1 1 0) { end_c = true; shut_t = true; fault = Some Object.Target; failed = ((Object.Target, CallKind.Reading) ∷ []); outer = Outer.Desk true; next = NextMark.Done })
     ∷ Event.See 1 1
     ∷ []
 
@@ -569,7 +569,7 @@ two_faults_events =
     ∷ Event.Open 1 1 client_at local_at 0
     ∷ Event.Turn (record (quiet 1 1 0) { outer = Outer.Desk true; next = NextMark.Again })
     ∷ Event.Turn (record (quiet 1 1 0) { c = (0x05 ∷ 0x01 ∷ 0x00 ∷ 0x05 ∷ 0x01 ∷ 0x00 ∷ 0x01 ∷ 0xC6 ∷ 0x33 ∷ 0x64 ∷ 0x0A ∷ 0x00 ∷ 0x50 ∷ 0x61 ∷ 0x62 ∷ []); full = (Object.Client ∷ []); outer = Outer.Desk true; next = NextMark.Again })
-    ∷ Event.Turn (record (quiet 1 1 0) { outer = Outer.Up (at4 0xC0000209 40000); fault = Some Object.Target; unwritten = true; next = NextMark.Again })
+    ∷ Event.Turn (record (quiet 1 1 0) { outer = Outer.Up (at4 0xC0000209 40000); fault = Some Object.Target; unwritten = true; failed = ((Object.Target, CallKind.Writing) ∷ []); next = NextMark.Again })
     ∷ Event.See 1 1
     ∷ Event.Turn (record (quiet 1 1 0) { sent_c = 12; sent_t = 2; outer = Outer.Desk true; next = NextMark.Done })
     ∷ []
@@ -603,7 +603,7 @@ one_fault_events =
     ∷ Event.Open 1 1 client_at local_at 0
     ∷ Event.Turn (record (quiet 1 1 0) { outer = Outer.Desk true; next = NextMark.Again })
     ∷ Event.Turn (record (quiet 1 1 0) { c = (0x05 ∷ 0x01 ∷ 0x00 ∷ 0x05 ∷ 0x01 ∷ 0x00 ∷ 0x01 ∷ 0xC6 ∷ 0x33 ∷ 0x64 ∷ 0x0A ∷ 0x00 ∷ 0x50 ∷ 0x61 ∷ 0x62 ∷ []); full = (Object.Client ∷ []); outer = Outer.Desk true; next = NextMark.Again })
-    ∷ Event.Turn (record (quiet 1 1 0) { outer = Outer.Up (at4 0xC0000209 40000); fault = Some Object.Target; unwritten = true; full = ([]); sent_c = 12; next = NextMark.Again })
+    ∷ Event.Turn (record (quiet 1 1 0) { outer = Outer.Up (at4 0xC0000209 40000); fault = Some Object.Target; unwritten = true; failed = ((Object.Target, CallKind.Writing) ∷ []); full = ([]); sent_c = 12; next = NextMark.Again })
     ∷ Event.See 1 1
     ∷ Event.Turn (record (quiet 1 1 0) { sent_t = 2; outer = Outer.Desk true; next = NextMark.Done })
     ∷ []

@@ -119,6 +119,7 @@ quiet worker number now = record {
   full = [];
   fault = None;
   unwritten = false;
+  failed = [];
   memory = false;
   next = NextMark.Going;
 }
