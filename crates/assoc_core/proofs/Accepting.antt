@@ -186,6 +186,8 @@ fresh-turns told counts stands users pubs generation config cap h marks now net 
       failed_t = None;
       tried_c = tried-none (counts a.client) (refl, refl, refl) (refl, refl) refl;
       tried_t = target-untried counts net a.target (refl, refl, refl) (refl, refl) refl;
+      where_c = tt;
+      where_t = tt;
       fault_is = (refl, refl);
       unwritten_is = refl;
       fails_c = λ h1. absurd (cc);
@@ -239,6 +241,8 @@ fresh-turns told counts stands users pubs generation config cap h marks now net 
       failed_t = None;
       tried_c = tried-none (counts a.client) (refl, refl, refl) (refl, refl) refl;
       tried_t = target-untried counts net a.target (refl, refl, refl) (refl, refl) refl;
+      where_c = tt;
+      where_t = tt;
       fault_is = (refl, refl);
       unwritten_is = refl;
       fails_c = λ h1. absurd (cc);

@@ -1,5 +1,5 @@
 -- The turns in which a client is answered, and has nothing more to say yet.
-use Rattle.std.proofs.Common.{◌≡◌, ℕ, zero, suc, ◌<◌, ◌-◌, Bool, true, false, ◌&&◌, ◌||◌, not, ◌==◌, nat_le, Some, None, List, [], ◌∷◌, ◌++◌, length, drop, refl, sym, ap, subst, ◌∙◌, inr, append_assoc, arith}
+use Rattle.std.proofs.Common.{◌≡◌, ℕ, zero, suc, ◌<◌, ◌-◌, Bool, true, false, ◌&&◌, ◌||◌, not, ◌==◌, nat_le, Some, None, List, [], ◌∷◌, ◌++◌, length, drop, refl, sym, ap, subst, ◌∙◌, inr, append_assoc, arith, Option, append-nil}
 use Rattle.std.proofs.lemmas.Bool.{lt-leb}
 use Rattle.std.proofs.Math.Seq.{drop-append_seam}
 use mathlib.Core.List.{IsPrefix}
@@ -38,7 +38,7 @@ use Rattle.assoc_core.specs.Hearing.{HasHeard}
 use Rattle.assoc_core.specs.Plain.{IsPlainRecord, owed_c, is_failed_split}
 use Rattle.assoc_core.specs.Sending.{Sends, SendEnds, failed_sending, is_full}
 use Rattle.assoc_core.specs.Stands.{GivesFirst}
-use Rattle.assoc_core.specs.Turns.{Turns, StopsReading, links, context, IsIdle, IsFull, is_write}
+use Rattle.assoc_core.specs.Turns.{Turns, StopsReading, links, context, IsIdle, IsFull, is_write, FailsWhere}
 use Rattle.assoc_core.proofs.LinksHeld.{short}
 use Rattle.assoc_core.proofs.Sendings.{rose-before, rose-after}
 use Rattle.assoc_core.proofs.PlainRecords.{and-false}
@@ -180,6 +180,7 @@ waits-for told counts stands users pubs generation config most h marks now net a
       failed = failed_sending outcome;
       tried = tried-on (heard-tried (told a.client) (told b.client) (counts a.client) (counts b.client) (a.state).c (b.state).c Heard.NotYet k.hears)
           (sent-tried (told b.client) (told client) (counts b.client) (counts client) t.sent s.sent_c _ outcome sends') (λ x y. x) (λ x y. (y.0, sym goes.0 ∙ y.1)) (λ x y. tt);
+      where_c = subst (λ (f : Option Kind). FailsWhere (basis_of t) (heard t) (caused t s.sent_c false None) Object.Client f) (sym goes.1) tt;
       fault_is = (goes.1, refl);
       unwritten_is = sym (ap is_write goes.1);
       fails_c = λ e1. absurd (cc);
@@ -248,6 +249,7 @@ writes-fail told counts stands users pubs generation config most h marks now net
       failed = Some Kind.Write;
       tried = tried-on (heard-tried (told a.client) (told b.client) (counts a.client) (counts b.client) (a.state).c (b.state).c Heard.NotYet k.hears)
           (sent-tried (told b.client) (told client) (counts b.client) (counts client) t.sent s.sent_c _ Sent.Failed sends') (λ x y. x) (λ x y. y.0) (λ x y. tt);
+      where_c = ap (λ z. not (is_nothing (drop (length s.sent_c) z))) (owes-fault t s.sent_c agrees) ∙ ap not (still-left s.sent_c [] sends'.rest (owes_now t None) (ap (λ z. z ++ sends'.rest) (append-nil s.sent_c ∙ sends'.after') ∙ owed-plain) (sends'.ends).0);
       fault_is = refl;
       unwritten_is = refl;
       fails_c = λ e1. rose-before _ _ _ ((k.hears).later).faults (sends'.ends).2;

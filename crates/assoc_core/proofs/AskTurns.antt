@@ -46,6 +46,7 @@ use Rattle.assoc_core.proofs.TalkCloses.{sends}
 use Rattle.assoc_core.proofs.Tryings.{tried-on}
 use Rattle.assoc_core.proofs.Talking.{Speaking, talker, spoken_to, spoken_in, unspoken, spoken, chosen_behind, spoken_takings}
 use Rattle.assoc_core.proofs.TalkTurns.{CallsOut, turns-called, speak_acts, speak_event, with_state}
+use Rattle.assoc_core.proofs.Failable.{LeavesOf, left-over, where-written}
 
 -- ---- the record behind the call
 
@@ -245,6 +246,12 @@ fault-sending Sent.All = (refl, refl)
 fault-sending Sent.Full = (refl, refl)
 fault-sending Sent.Failed = refl
 
+-- a write that failed left something
+pub leaves-of : (outcome : Sent) (rest : List ℕ) → (is_failed outcome ≡ true → 0 < length rest) → LeavesOf rest (failed_sending outcome)
+leaves-of Sent.All rest h = tt
+leaves-of Sent.Full rest h = tt
+leaves-of Sent.Failed rest h = (refl, h refl)
+
 pub unwritten-sending : (outcome : Sent) → is_failed outcome ≡ is_write (failed_sending outcome)
 unwritten-sending Sent.All = refl
 unwritten-sending Sent.Full = refl
@@ -297,6 +304,8 @@ asks-turn {L = L} told counts stands k outer ds refused h marks net net' a b nex
       );
       failed = failed_sending w.outcome;
       tried = tried-on j.tried (sent-tried (told b.client) (told w.client) (counts b.client) (counts w.client) (k.said).sent w.sent _ w.outcome sends') (λ x y. (x, refl, refl)) (λ x y. y) (λ x y. tt);
+      where_c = where-written (spoken_to k.said) (spoken k.said) (asked k.said ds w.sent (with_failure failed (first_cause refused None))) Object.Client (failed_sending w.outcome) sends'.rest
+          (leaves-of w.outcome sends'.rest (λ e1. (ends.failed' e1).0)) (left-over w.sent sends'.rest _ _ (still-owes k outer ds refused h marks failed m) owed-now);
       fault_is = fault-sending w.outcome;
       unwritten_is = unwritten-sending w.outcome;
       fails_c = λ e1. rose-before _ _ _ (j.later).faults (ends.failed' (has-failed failed e1)).2;

@@ -1,5 +1,5 @@
 -- What a turn at the moment of the last movement comes to at another moment.
-use Rattle.std.proofs.Common.{◌≡◌, ℕ, ◌<◌, ◌≤◌, Bool, true, false, if◌then◌else◌, Option, Some, None, List, [], ◌++◌, refl, sym, ap, subst, ◌∙◌, length, is_some}
+use Rattle.std.proofs.Common.{◌≡◌, ℕ, ◌<◌, ◌≤◌, Bool, true, false, if◌then◌else◌, Option, Some, None, List, [], ◌++◌, refl, sym, ap, subst, ◌∙◌, length, drop, is_some, not, ◌&&◌}
 use Rattle.addr_pattern.specs.declared.endpoint.Endpoint.{Endpoint}
 use Rattle.conf_types.specs.declared.entries.Entries.{Entries}
 use Rattle.socks_grammar.specs.declared.protocol.Version.{Version}
@@ -19,13 +19,13 @@ use Rattle.socks_machine.specs.declared.world.TurnEvent.{TurnEvent}
 use Rattle.socks_machine.specs.Calls.{Context, TurnResult, call_close, close_line, cause_of_shut}
 use Rattle.socks_machine.specs.Decisions.{reached_at}
 use Rattle.socks_machine.specs.History.{at_close}
-use Rattle.socks_machine.specs.Owed.{waiting_for_target, waiting_for_client}
-use Rattle.socks_machine.specs.Phase.{Phase, phase, is_udp}
+use Rattle.socks_machine.specs.Owed.{waiting_for_target, waiting_for_client, owed_to_client, replies}
+use Rattle.socks_machine.specs.Phase.{Phase, phase, is_udp, relay_began, target_payload}
 use Rattle.socks_machine.specs.Replies.{RefusedAt, refusal}
-use Rattle.socks_machine.specs.Settle.{first_cause}
+use Rattle.socks_machine.specs.Settle.{first_cause, is_nothing}
 use Rattle.socks_machine.specs.Socks.{socks}
 use Rattle.socks_machine.specs.Taking.{pipe_size}
-use Rattle.socks_machine.specs.Turn.{turn, aged, marked, limit, is_late}
+use Rattle.socks_machine.specs.Turn.{turn, aged, marked, limit, is_late, has_pending, may_be_shut}
 use Rattle.assoc_core.specs.declared.assoc.Assoc.{Assoc}
 use Rattle.assoc_core.specs.declared.assoc.Ended.{Ended}
 use Rattle.assoc_core.specs.declared.assoc.Next.{Next}
@@ -34,12 +34,16 @@ use Rattle.assoc_core.specs.Closing.{Closed}
 use Rattle.assoc_core.specs.Moment.{movement, moment, at_moment, limit_of, is_late_by, cause_by}
 use Rattle.assoc_core.specs.Plain.{owed_c, owed_t, opening_owed, refused_at, plain_to_client}
 use Rattle.assoc_core.specs.Stands.{GoesDirect, Holds, HoldsTarget, EndsBehind, GivesFirst}
-use Rattle.assoc_core.specs.Turns.{Acts, Turns, GoesOn, event_of, context, mark_of, left_of, IsIdle, IsFull, IsThereAnd, SameOutside, SameTarget, DialsAre, LookupsAre, PlanStays, IsOuterOf, CountRose, RoseTarget, TriedTarget}
+use Rattle.assoc_core.specs.Turns.{Acts, Turns, GoesOn, event_of, context, mark_of, left_of, IsIdle, IsFull, IsThereAnd, SameOutside, SameTarget, DialsAre, LookupsAre, PlanStays, IsOuterOf, CountRose, RoseTarget, TriedTarget, FailsWhere, call_of}
 use Rattle.assoc_core.proofs.Lateness.{waits-uncalled, CalledNothing, turns-late, cause_late}
 use Rattle.assoc_core.proofs.Moments.{turns-at}
 use Rattle.assoc_core.proofs.Movements.{Moves, aged-moment, late-is, limit-is, plain-dated}
 use Rattle.assoc_core.proofs.RelayRecords.{plain-tcp}
 use Rattle.assoc_core.proofs.TalkTurns.{stops-as}
+use Rattle.net_ends.specs.declared.kinds.Kind.{Kind}
+use Rattle.socks_machine.specs.FailedCalls.{can_fail}
+use Rattle.socks_machine.specs.Basis.{Basis}
+use Rattle.socks_machine.specs.declared.world.Object.{Object}
 
 -- ---- what an answer keeps that is given at another moment
 
@@ -61,6 +65,7 @@ pub record Redone {L : Type 0} (told : L → Told) (counts : L → Counts) (stan
   pub done : Bool
   pub left' : result.left ≡ (let r = t.result.left in record r { since = since; cause = cause; at_close = at_close; done = done })
   pub owes : owed_c result.left ≡ owed_c t.result.left
+  pub owed : owed_to_client s.basis result.left ≡ owed_to_client s.basis t.result.left
   pub dated : a.state.since ≡ now → since ≡ now
   pub client : (left_of next').client ≡ (left_of next).client
   pub target : (left_of next').target ≡ (left_of next).target
@@ -150,11 +155,31 @@ redone {L} told counts stands stands' s now net net' a next next' t outer h = re
   failed_t = t.failed_t;
   tried_c = subst (λ (l : L). Tried (counts a.client) (counts l) ((t.acts.c ≡ []) × (t.acts.end_c ≡ false) × (t.acts.idle_c ≡ false)) ((t.acts.sent_c ≡ 0) × (t.acts.full_c ≡ false)) (t.acts.shut_c ≡ false) t.failed_c) (sym h.client) t.tried_c;
   tried_t = subst (λ (l : Option L). TriedTarget counts net a.target l ((t.acts.t ≡ []) × (t.acts.end_t ≡ false) × (t.acts.idle_t ≡ false)) ((t.acts.sent_t ≡ 0) × (t.acts.full_t ≡ false)) (t.acts.shut_t ≡ false) t.failed_t) (sym h.target) t.tried_t;
+  where_c = where-dated Object.Client t.failed_c t.where_c;
+  where_t = where-dated Object.Target t.failed_t t.where_t;
   fault_is = t.fault_is;
   unwritten_is = t.unwritten_is;
   fails_c = λ e. subst (λ (l : L). Rose (counts a.client).faults (counts l).faults) (sym h.client) (t.fails_c e);
   unfailing = t.unfailing;
 }
+  where
+    sent : h.result.left.sent_c ≡ t.result.left.sent_c
+    sent = ap (λ (r : Record). r.sent_c) h.left'
+
+    can-dated : (x : Object) (kind : Kind) → can_fail s.basis t.behind h.result.left (x, call_of kind) ≡ can_fail s.basis t.behind t.result.left (x, call_of kind)
+    can-dated x Kind.Read = refl
+    can-dated Object.Client Kind.Write = λ i. not (is_nothing (drop (length (sent i)) (h.owed i)))
+    can-dated Object.Target Kind.Write = ap (λ (r : Record). has_pending s.basis r Object.Target) h.left'
+    can-dated Object.Door Kind.Write = refl
+    can-dated Object.Port Kind.Write = ap (λ (r : Record). has_pending s.basis r Object.Port) h.left'
+    can-dated Object.Client Kind.Shut = λ i. let r = h.left' i in relay_began s.basis r && r.end_t && not r.shut_c && is_nothing (drop (length (sent i)) (h.owed i))
+    can-dated Object.Target Kind.Shut = ap (λ (r : Record). may_be_shut s.basis r Object.Target) h.left'
+    can-dated Object.Door Kind.Shut = refl
+    can-dated Object.Port Kind.Shut = refl
+
+    where-dated : (x : Object) (failed : Option Kind) → FailsWhere s.basis t.behind t.result.left x failed → FailsWhere s.basis t.behind h.result.left x failed
+    where-dated x None w = tt
+    where-dated x (Some kind) w = can-dated x kind ∙ w
 
 -- ---- it is not late
 
@@ -193,6 +218,7 @@ turns-dated told counts stands s now net net' a next next' t direct mark state c
       done = t.result.left.done;
       left' = refl;
       owes = refl;
+      owed = refl;
       dated = λ e. is-moment now t.result.left.since _ (t.since refl ∙ e);
       client = client;
       target = target;
@@ -261,6 +287,21 @@ owes-timed r now limit = by-cause r.cause
     by-cause None = by-at (reached_at r.decisions)
     by-cause (Some cause) = refl
 
+-- .. so that no more is owed
+owed-timed : (users : List User) (pubs : List Entries) (r : Record) (now limit : ℕ) → owed_to_client (socks users pubs) (record r { cause = first_cause (Some (Cause.TimedOut r.since now limit)) r.cause }) ≡ owed_to_client (socks users pubs) r
+owed-timed users pubs r now limit = by-cause r.cause
+  where
+    basis : Basis
+    basis = socks users pubs
+
+    none : (began : Bool) (v : Option Version) (at : RefusedAt) → (if began then [] else refusal v at (Cause.TimedOut r.since now limit)) ≡ []
+    none true v at = refl
+    none false v at = silent v at r.since now limit
+
+    by-cause : (k : Option Cause) → owed_to_client basis (record r { cause = first_cause (Some (Cause.TimedOut r.since now limit)) k }) ≡ owed_to_client basis (record r { cause = k })
+    by-cause None = ap (λ z. replies basis r ++ (if relay_began basis r then target_payload basis r else []) ++ z) (none (relay_began basis r) (version_of r.c) (refused_at r.chosen r.c (Cause.TimedOut r.since now limit)))
+    by-cause (Some cause) = refl
+
 cause-late-is : (s : Context) (now : ℕ) (r : Record) (k : Option Cause) → GoesDirect s.basis r.decisions → cause_late s now r k ≡ cause_by s.config now r k
 cause-late-is s now r (Some cause) h = refl
 cause-late-is s now r None h = ap (Cause.TimedOut r.since now) (limit-is s.basis s.config r h)
@@ -299,6 +340,7 @@ late-dated {L} told counts stands stands' users pubs generation config cap h mar
       done = true;
       left' = refl;
       owes = owes-timed x' now (limit s.basis s.config x');
+      owed = owed-timed users pubs x' now (limit s.basis s.config x');
       dated = λ f. is-moment now t.result.left.since _ (t.since refl ∙ f);
       client = closed.client;
       target = closed.target;

@@ -44,6 +44,7 @@ use Rattle.assoc_core.proofs.RelayRecords.{asked-as, plain-tcp}
 use Rattle.assoc_core.proofs.PassKinds.{sound-none, unsound-kind}
 use Rattle.assoc_core.proofs.Tryings.{added-none, target-same, tried-as}
 use Rattle.assoc_core.proofs.RelaySums.{clash, sent-on, none-left, all-sent}
+use Rattle.assoc_core.proofs.Failable.{LeavesOf}
 
 -- ---- tests
 
@@ -194,6 +195,14 @@ client-drained users old mid told told' counts counts' give plain held ends' fir
   unsound = λ h. let f = unsound-of sends.gives h in (some-unsent sends.gives h, f.1, λ fine. clash told.unfailing fine (sym (outside-given sends.gives).unfailing ∙ f.0));
 }
 
+-- a write that failed left something
+leaves-by : (give : Give) (rest : List ℕ) → (is_sound give ≡ false → is_write (failed_giving give) ≡ true) → (is_sound give ≡ false → 0 < length rest) → LeavesOf rest (failed_giving give)
+leaves-by Give.Held rest written some = tt
+leaves-by Give.All rest written some = tt
+leaves-by Give.Full rest written some = tt
+leaves-by Give.Unwritten rest written some = (refl, some refl)
+leaves-by Give.Unshut rest written some = let e : false ≡ true = written refl in absurd (cc)
+
 -- ---- the close
 
 pub drain-ends : {L : Type 0} (told : L → Told) (counts : L → Counts) (stands : List Line → List StopBy → Type 0)
@@ -308,6 +317,8 @@ client-failed {L} told counts stands users pubs generation config cap h marks no
       failed_t = None;
       tried_c = tried-as d.tried (λ x. x) (λ x. (x.0, refl)) (λ x. x);
       tried_t = target-same counts net a.target e.target target tt (refl, refl) tt;
+      leaves_c = leaves-by gave_c d.rest d.written (λ e. (d.unsound e).0);
+      leaves_t = tt;
       fault_is = sym (unsound-kind gave_c) ∙ ap not unsound;
       unwritten_is = sym (ap (λ b. b || false) (d.written unsound));
       fails_c = λ k. (d.unsound unsound).1;
@@ -372,6 +383,8 @@ both-turn told counts net a mid next between cause gave_c gave_t fault unwritten
   failed_t = failed_giving gave_t;
   tried_c = k.c.tried;
   tried_t = k.t.tried;
+  leaves_c = leaves-by gave_c k.c.rest k.c.written (λ e. (k.c.unsound e).0);
+  leaves_t = leaves-by gave_t k.t.rest k.t.written (λ e. (k.t.unsound e).0);
   fault_is = fault_is;
   unwritten_is = unwritten_is;
   fails_c = λ e. absurd (other e);

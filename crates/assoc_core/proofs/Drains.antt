@@ -40,6 +40,7 @@ use Rattle.assoc_core.proofs.Tryings.{target-tried-as, tried-as}
 use Rattle.assoc_core.proofs.RelayCloses.{closes-with}
 use Rattle.assoc_core.proofs.RelayEnds.{idle-c, idle-t, both, drop-sent, something}
 use Rattle.assoc_core.proofs.RelayTurns.{IsDesk, desk-dials, desk-lookups, desk-plan, desk-outer, desk-counted}
+use Rattle.assoc_core.proofs.Failable.{LeavesOf, pending-left, where-written}
 
 -- what such a turn does
 abbrev pub drain_acts : List ℕ → List ℕ → Bool → Bool → Option Object → Bool → Outer → Acts
@@ -226,6 +227,8 @@ pub record DrainTurn {L : Type 0} (told : L → Told) (counts : L → Counts) (b
   pub failed_t : Option Kind
   pub tried_c : Tried (counts a.client) (counts (left_of next).client) (Unit {0}) ((part_c ≡ []) × (full_c ≡ false)) (Unit {0}) failed_c
   pub tried_t : TriedTarget counts net a.target (left_of next).target (Unit {0}) ((part_t ≡ []) × (full_t ≡ false)) (Unit {0}) failed_t
+  pub leaves_c : LeavesOf rest_c failed_c
+  pub leaves_t : LeavesOf rest_t failed_t
   pub fault_is : FaultIs fault failed_c failed_t
   pub unwritten_is : unwritten ≡ is_write failed_c || is_write failed_t
   pub fails_c : fault ≡ Some Object.Client → Rose (counts a.client).faults (counts (left_of next).client).faults
@@ -286,6 +289,8 @@ drain-turns {L} told counts stands users pubs generation config cap h marks now 
   failed_t = k.failed_t;
   tried_c = tried-as k.tried_c (λ x. (refl, refl, refl)) (λ x. (ap (λ (z : List ℕ). length z) x.0, x.1)) (λ x. refl);
   tried_t = target-tried-as counts net a.target (left_of next).target k.failed_t k.tried_t (λ x. (refl, refl, refl)) (λ x. (ap (λ (z : List ℕ). length z) x.0, x.1)) (λ x. refl);
+  where_c = where-written (socks users pubs) a.state (record (drained a.state part_c part_t) { at_close = at_close; done = done }) Object.Client k.failed_c rest_c k.leaves_c (λ some. pending-left rest_c _ (drain-pending-c users pubs a.state cause part_c rest_c part_t rest_t k.drains) some);
+  where_t = where-written (socks users pubs) a.state (record (drained a.state part_c part_t) { at_close = at_close; done = done }) Object.Target k.failed_t rest_t k.leaves_t (λ some. pending-left rest_t _ (drain-pending-t users pubs a.state cause part_c rest_c part_t rest_t k.drains) some);
   fault_is = k.fault_is;
   unwritten_is = k.unwritten_is;
   fails_c = k.fails_c;

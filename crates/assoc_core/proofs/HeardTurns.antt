@@ -228,6 +228,7 @@ hangs-up {L = L} told counts stands users pubs generation config most h marks no
       idle_c = λ e1. absurd (cc);
       failed = None;
       tried = tried-as (heard-tried (told a.client) (told b.client) (counts a.client) (counts b.client) (a.state).c (b.state).c Heard.End k.hears) (λ x. x) (λ x. refl) (λ x. tt);
+      where_c = tt;
       fault_is = (refl, refl);
       unwritten_is = refl;
       fails_c = λ e1. absurd (cc);
@@ -295,6 +296,7 @@ reads-fail told counts stands users pubs generation config most h marks now net 
       idle_c = λ e1. absurd (cc);
       failed = Some Kind.Read;
       tried = tried-as (heard-tried (told a.client) (told b.client) (counts a.client) (counts b.client) (a.state).c (b.state).c Heard.Failed k.hears) (λ x. x) (λ x. refl) (λ x. tt);
+      where_c = ap (λ (p : Phase). reads_in (heard t) p Object.Client) talks;
       fault_is = refl;
       unwritten_is = refl;
       fails_c = λ e1. (k.hears).ends.1;

@@ -6,6 +6,7 @@ pub mod Carryings
 pub mod DrainAnswers
 pub mod Drains
 pub mod Owing
+pub mod Failable
 pub mod GrantTurns
 pub mod HeardTurns
 pub mod Hearings

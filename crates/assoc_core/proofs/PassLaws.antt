@@ -1,5 +1,5 @@
 -- What the steps of one pass over a relay tell.
-use Rattle.std.proofs.Common.{◌≡◌, ℕ, ◌<◌, ◌≤◌, ◌⊎◌, inl, inr, Bool, true, false, ◌&&◌, ◌||◌, not, if◌then◌else◌, Option, Some, None, List, [], length, refl, sym, ap, ◌∙◌, is_some}
+use Rattle.std.proofs.Common.{◌≡◌, ℕ, ◌<◌, ◌≤◌, ◌⊎◌, inl, inr, Bool, true, false, ◌&&◌, ◌||◌, not, if◌then◌else◌, Option, Some, None, List, [], length, refl, sym, ap, ◌∙◌, is_some, subst}
 use Rattle.net_ends.specs.Counts.{Counts, Rose}
 use Rattle.net_ends.specs.Told.{Told}
 use Rattle.socks_machine.specs.declared.world.Object.{Object}
@@ -240,3 +240,9 @@ sent-of {new = new} {counts = counts} {counts' = counts'} {gives = gives} {ends 
 pub nothing-of : {old new : Told} {counts counts' : Counts} {before after pending : List ℕ} {gives ends was shut : Bool} {give : Give} → (k : GivesPart old new counts counts' before after pending gives ends was shut give)
     → gives ≡ true → is_unwritten give ≡ false → is_nothing k.rest ≡ not (is_full give)
 nothing-of {new = new} {counts = counts} {counts' = counts'} {gives = gives} {ends = ends} {shut = shut} {give = give} k g u = nothing-by new counts counts' k.rest gives ends shut give k.why g u
+
+-- where a shut failed, all was sent and the other side has ended
+pub unshut-left : {old new : Told} {counts counts' : Counts} {before after pending : List ℕ} {gives ends was shut : Bool} {give : Give} → (k : GivesPart old new counts counts' before after pending gives ends was shut give)
+    → give ≡ Give.Unshut → (k.rest ≡ []) × (ends ≡ true) × (shut ≡ false)
+unshut-left {new = new} {counts = counts} {counts' = counts'} {gives = gives} {ends = ends} {shut = shut} k e =
+    let h = subst (λ (g : Give). GiveEnds new counts counts' k.rest gives ends shut g) e k.why in (h.0, h.1, h.2)

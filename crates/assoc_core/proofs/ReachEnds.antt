@@ -33,7 +33,7 @@ use Rattle.assoc_core.specs.Sending.{Sends, SendEnds, WritesOn, failed_sending, 
 use Rattle.assoc_core.specs.Stands.{Stands, Holds, HoldsTarget, EndsBehind, GivesFirst}
 use Rattle.assoc_core.specs.Turns.{Turns, SameOutside, SameTarget, IsUnfailing, TakesNothing, TriedTarget, FaultIs, IsFull, IsThereAnd, context, is_write}
 use Rattle.assoc_core.proofs.Answering.{all-owed, with_link}
-use Rattle.assoc_core.proofs.AskTurns.{AskEnds, ask-ends, fault_of, no-fault, has-failed}
+use Rattle.assoc_core.proofs.AskTurns.{AskEnds, ask-ends, fault_of, no-fault, has-failed, leaves-of}
 use Rattle.assoc_core.proofs.GrantTurns.{last-set}
 use Rattle.assoc_core.proofs.Reaching.{Dialling, at-behind, reached_behind, behind, before, due_t, with_object}
 use Rattle.assoc_core.proofs.ReachTurns.{judged-in, Reaches, FailedWrite, dialling_of, before-is, behind-is, turns-reached, due_c, due-as, first-due, told_taken, holds-new, target-none}
@@ -41,6 +41,7 @@ use Rattle.assoc_core.proofs.Sendings.{more-nil}
 use Rattle.assoc_core.proofs.StandsLaws.{same-target}
 use Rattle.assoc_core.proofs.TalkTurns.{with_state}
 use Rattle.assoc_core.proofs.Tryings.{tried-none, tried-as, added-none, rose-new}
+use Rattle.assoc_core.proofs.Failable.{LeavesOf}
 
 -- ---- from the turn with the explicit record
 
@@ -124,6 +125,8 @@ refuses-turn {L = L} told counts users pubs generation config most h marks net n
           (tried-as sends'.tried (λ u. u) (λ e. (added-none d.sent w.sent sends'.bytes sends'.after' e.0, e.1)) (λ u. u));
       tried_t = subst (λ (w : Option L). TriedTarget counts net a.target w (Unit {0}) (((z.state).sent_t ≡ []) × (false ≡ false)) (Unit {0}) None) (sym k.target')
           (subst (λ (w : Option L). TriedTarget counts net w w (Unit {0}) (((z.state).sent_t ≡ []) × (false ≡ false)) (Unit {0}) None) (sym no-target) (refl, tt, (none-t, refl), tt));
+      leaves_c = leaves-of w.outcome sends'.rest (λ e. (ends.failed' e).0);
+      leaves_t = tt;
       fault_is = client-fault-is w.outcome;
       unwritten_is = client-unwritten w.outcome;
       fails_c = λ e. subst (λ (l : L). Rose (counts l).faults (counts w.client).faults) k.client' (ends.failed' (has-failed failed e)).2;
@@ -191,6 +194,8 @@ pub record Greets {L : Type 0} (told : L → Told) (counts : L → Counts) (b z 
   pub failed_t : Option Kind
   pub tried_c : Tried (counts b.client) (counts z.client) (Unit {0}) ((y_c ≡ []) × (full_c ≡ false)) (Unit {0}) failed_c
   pub tried_t : Tried (counts new) (counts link) (Unit {0}) (((z.state).sent_t ≡ []) × (full_t ≡ false)) (Unit {0}) failed_t
+  pub leaves_c : LeavesOf rest_c failed_c
+  pub leaves_t : LeavesOf rest_t failed_t
   pub fault_is : FaultIs fault failed_c failed_t
   pub unwritten_is : unwritten ≡ is_write failed_c || is_write failed_t
   pub fails_c : fault ≡ Some Object.Client → Rose (counts b.client).faults (counts z.client).faults
@@ -236,6 +241,8 @@ greets-turn {L = L} told counts users pubs generation config most h marks net ne
       tried_c = subst (λ (l : L). Tried (counts l) (counts z.client) (Unit {0}) ((y_c ≡ []) × (full_c ≡ false)) (Unit {0}) w.failed_c) k.client' w.tried_c;
       tried_t = subst (λ (t : Option L). TriedTarget counts net a.target t (Unit {0}) (((z.state).sent_t ≡ []) × (full_t ≡ false)) (Unit {0}) w.failed_t) (sym w.target')
           (subst (λ (t : Option L). TriedTarget counts net t (Some link) (Unit {0}) (((z.state).sent_t ≡ []) × (full_t ≡ false)) (Unit {0}) w.failed_t) (sym no-target) (counts new, v.due', w.tried_t));
+      leaves_c = w.leaves_c;
+      leaves_t = w.leaves_t;
       fault_is = w.fault_is;
       unwritten_is = w.unwritten_is;
       fails_c = λ e. subst (λ (l : L). Rose (counts l).faults (counts z.client).faults) k.client' (w.fails_c e);
@@ -290,6 +297,8 @@ greets-none {L = L} told counts b new client s last state' unsent sends last' = 
   failed_t = None;
   tried_c = tried-as sends.tried (λ u. u) (λ e. (added-none (b.state).sent_c s.sent_c sends.bytes sends.after' e.0, refl)) (λ u. u);
   tried_t = tried-none (counts new) tt (unsent', refl) tt;
+  leaves_c = (refl, (sends.ends).0);
+  leaves_t = tt;
   fault_is = refl;
   unwritten_is = refl;
   fails_c = λ e. (sends.ends).2;
@@ -392,6 +401,8 @@ sends-payload {L = L} told counts users pubs generation config most h marks net 
       failed_t = failed_sending outcome;
       tried_c = tried-as g.tried (λ u. u) (λ e. (added-none (b.state).sent_c (z.state).sent_c g.bytes (ap (λ (r : Record). r.sent_c) z-is) e.0, e.1)) (λ u. u);
       tried_t = sends'.tried;
+      leaves_c = tt;
+      leaves_t = leaves-of outcome sends'.rest (λ e. (ends.failed' e).0);
       fault_is = target-fault-is outcome;
       unwritten_is = target-unwritten outcome;
       fails_c = λ e. absurd (not-client failed e);

@@ -41,6 +41,7 @@ use Rattle.assoc_core.proofs.PlainRecords.{passed_grant, plain-owes-client, plai
 use Rattle.assoc_core.proofs.Reaching.{Dialling, connecting, dialler, at-behind, ds-behind, reached_behind, basis_of, context_of, before, behind, grant_of, phase-before, same-opening, due_t, plain-behind, payload-none, reach_acts, with_object, ReachSends, reaches-on}
 use Rattle.assoc_core.proofs.TalkTurns.{with_state}
 use Rattle.assoc_core.proofs.Tryings.{tried-as, target-tried-as}
+use Rattle.assoc_core.proofs.Failable.{LeavesOf, left-over, where-written}
 
 -- ---- what is owed
 
@@ -394,6 +395,8 @@ pub record Reaches {L : Type 0} (told : L → Told) (counts : L → Counts) (d :
   pub failed_t : Option Kind
   pub tried_c : Tried (counts a.client) (counts z.client) (Unit {0}) ((y_c ≡ []) × (full_c ≡ false)) (Unit {0}) failed_c
   pub tried_t : TriedTarget counts net a.target z.target (Unit {0}) (((z.state).sent_t ≡ []) × (full_t ≡ false)) (Unit {0}) failed_t
+  pub leaves_c : LeavesOf rest_c failed_c
+  pub leaves_t : LeavesOf rest_t failed_t
   pub fault_is : FaultIs fault failed_c failed_t
   pub unwritten_is : unwritten ≡ is_write failed_c || is_write failed_t
   pub fails_c : fault ≡ Some Object.Client → Rose (counts a.client).faults (counts z.client).faults
@@ -451,6 +454,8 @@ turns-reached told counts d net net' a z o y_c rest_c rest_t full_c full_t fault
   failed_t = h.failed_t;
   tried_c = tried-as h.tried_c (λ u. (refl, refl, refl)) (λ e. (ap (λ (z : List ℕ). length z) e.0, e.1)) (λ u. refl);
   tried_t = target-tried-as counts net a.target z.target h.failed_t h.tried_t (λ u. (refl, refl, refl)) (λ e. (ap (λ (z : List ℕ). length z) e.0, e.1)) (λ u. refl);
+  where_c = where-written (basis_of d) (before d) x Object.Client h.failed_c rest_c h.leaves_c (left-over (d.sent ++ y_c) rest_c (due_c d o) _ (owes-c d o fault) (h.writes).all_c);
+  where_t = where-written (basis_of d) (before d) x Object.Target h.failed_t rest_t h.leaves_t (left-over (z.state).sent_t rest_t (due_t d (at_of o)) _ (owes-t d o fault) (h.writes).all_t);
   fault_is = h.fault_is;
   unwritten_is = h.unwritten_is;
   fails_c = h.fails_c;

@@ -18,31 +18,36 @@ use Rattle.socks_machine.specs.Basis.{Basis}
 use Rattle.socks_machine.specs.Calls.{Context}
 use Rattle.socks_machine.specs.Decisions.{granted, reached_at}
 use Rattle.socks_machine.specs.InTurn.{Takes, takings}
-use Rattle.socks_machine.specs.Owed.{waiting_for_target, waiting_for_client}
+use Rattle.socks_machine.specs.Owed.{waiting_for_target, waiting_for_client, pending_to_client, pending_to_target}
 use Rattle.socks_machine.specs.Phase.{Phase, phase, relay_began}
 use Rattle.socks_machine.specs.Relaying.{RelayFacts, relayed}
 use Rattle.socks_machine.specs.Socks.{socks}
 use Rattle.socks_machine.specs.Script.{without_ends}
 use Rattle.socks_machine.specs.Taking.{reads_client, reads_target, pipe_size}
-use Rattle.socks_machine.specs.Turn.{turn}
+use Rattle.socks_machine.specs.Turn.{turn, may_be_shut, reads_in}
 use Rattle.socks_machine.proofs.RelayLaws.{relaying-reads, began-same}
 use Rattle.socks_machine.proofs.TurnStages.{takes-is}
 use Rattle.assoc_core.specs.declared.assoc.Assoc.{Assoc}
 use Rattle.assoc_core.specs.declared.assoc.Next.{Next}
 use Rattle.assoc_core.specs.declared.relay.Pass.{Pass}
-use Rattle.assoc_core.specs.Carrying.{Passes, waiting_of, is_read, is_sound, is_idle, is_full, fault_of, unwritten_of, first_failed, failed_giving, failed_taking}
+use Rattle.assoc_core.specs.Carrying.{Passes, waiting_of, is_read, is_sound, is_idle, is_full, fault_of, unwritten_of, first_failed, failed_giving, failed_taking, is_unwritten}
 use Rattle.assoc_core.specs.Plain.{IsPlainRecord, is_login_failed, owed_c, owed_t, prelude_of, replies_by}
 use Rattle.assoc_core.specs.Stands.{Holds, HoldsTarget, Stands}
-use Rattle.assoc_core.specs.Turns.{Acts, event_of, context, links, Turns, GoesOn, left_of, mark_of, DialsAre, LookupsAre, PlanStays, IsOuterOf, CountRose, IsIdle, IsFull, Filled, IsThereAnd, IsUnfailing, TakesNothing, SameTarget, FaultIs}
+use Rattle.assoc_core.specs.Turns.{Acts, event_of, context, links, Turns, GoesOn, left_of, mark_of, DialsAre, LookupsAre, PlanStays, IsOuterOf, CountRose, IsIdle, IsFull, Filled, IsThereAnd, IsUnfailing, TakesNothing, SameTarget, FaultIs, FailsWhere}
 use Rattle.assoc_core.proofs.LinksHeld.{holds-taken, holds-given, ends-given, first-given, idle-given, full-taken, outside-given, outside-taken, outside-on, short}
-use Rattle.assoc_core.proofs.PassLaws.{ended-of, idle-of, unread-of, stops-of, full-of, unsound-of, held-full, FaultTells, fault-tells, fault-none, fault-unread, fault-read, fault-first, fault-unsound-t, fault-unsound-c, sound-written}
-use Rattle.assoc_core.proofs.RelayEnds.{in-phase}
+use Rattle.assoc_core.proofs.PassLaws.{ended-of, idle-of, unread-of, stops-of, full-of, unsound-of, held-full, FaultTells, fault-tells, fault-none, fault-unread, fault-read, fault-first, fault-unsound-t, fault-unsound-c, sound-written, unshut-left, unwritten-left}
+use Rattle.assoc_core.proofs.RelayEnds.{in-phase, drop-sent}
 use Rattle.assoc_core.proofs.RelayRecords.{is-relayed, plain-relay-facts}
 use Rattle.assoc_core.proofs.RelaySums.{clash, Sums, summed, Begun, sum_acts, relays, replies-owe, sent-c, sent-t, sums-carried}
 use Rattle.assoc_core.proofs.Sendings.{rose-before, rose-after}
 use Rattle.assoc_core.proofs.PassKinds.{fault-kinds, target-tried, unwritten-kinds}
 use Rattle.assoc_core.proofs.Tryings.{added-none, rose-target, tried-as}
 use Rattle.assoc_core.proofs.Waiting.{client-waits, target-waits}
+use Rattle.assoc_core.proofs.PlainRecords.{plain-owes-client, plain-owes-target}
+use Rattle.assoc_core.proofs.Failable.{pending-left}
+use Rattle.socks_machine.specs.Settle.{is_nothing}
+use Rattle.assoc_core.specs.declared.carry.Take.{Take}
+use Rattle.assoc_core.specs.declared.carry.Give.{Give}
 
 -- ---- the sums of a pass
 
@@ -277,6 +282,8 @@ relay-turns {L} told counts stands users pubs generation config cap h marks now 
   failed_t = first_failed (failed_giving pass.gave_t) (failed_taking pass.took_t);
   tried_c = tried-as p.tried_c (λ x. (added-none _ _ _ p.takes_c.after' x.0, x.1, x.2)) (λ x. (ap (λ (z : List ℕ). length z) (added-none _ _ _ p.gives_c.after' x.0), x.1)) (λ x. x);
   tried_t = target-tried counts net _ k.target k.target' (tried-as p.tried_t (λ x. (added-none _ _ _ p.takes_t.after' x.0, x.1, x.2)) (λ x. (ap (λ (z : List ℕ). length z) (added-none _ _ _ p.gives_t.after' x.0), x.1)) (λ x. x));
+  where_c = where-client pass.took_c pass.gave_c refl refl;
+  where_t = where-target pass.took_t pass.gave_t refl refl;
   fault_is = subst (λ (z : Option Object). FaultIs z (first_failed (failed_taking pass.took_c) (failed_giving pass.gave_c)) (first_failed (failed_giving pass.gave_t) (failed_taking pass.took_t))) is_fault (fault-kinds pass);
   unwritten_is = sym is_unwritten' ∙ unwritten-kinds pass (λ e. (p.held e).2);
   fails_c = λ e. client-fails (subst (λ (z : Option Object). FaultTells z (is_read pass.took_c) (is_sound pass.gave_t) (is_read pass.took_t) (is_sound pass.gave_c)) e tells);
@@ -389,3 +396,61 @@ relay-turns {L} told counts stands users pubs generation config cap h marks now 
 
     read_fine_t : IsUnfailing told net a.target → is_read pass.took_t ≡ true
     read_fine_t fine = tested (is_read pass.took_t) (λ e. clash ((told k.link).unfailing) (fine_link fine) (sym (outside-on (outside-given p.gives_t) (outside-taken p.takes_t)).unfailing ∙ (unread-of p.takes_t e).1))
+
+    -- what is pending behind the pass, and where a call has failed
+    behind : Record
+    behind = relayed a.state p.takes_c.part p.takes_t.part p.takes_c.ends p.takes_t.ends
+
+    plain : IsPlainRecord users (summed a.state p.takes_c.part p.takes_t.part p.gives_c.part p.gives_t.part p.takes_c.ends p.takes_t.ends false false cause)
+    plain = sums-carried a.state k.at _ _ _ _ _ _ _ _ _ _ cause sound' k.begun read_both apart
+
+    pending-c : pending_to_client s.basis left ≡ p.gives_c.rest
+    pending-c = drop-sent (a.state.sent_c ++ p.gives_c.part) p.gives_c.rest _ (owes_c ∙ sym (plain-owes-client users pubs _ plain k.begun.direct))
+
+    pending-t : pending_to_target s.basis left ≡ p.gives_t.rest
+    pending-t = drop-sent (a.state.sent_t ++ p.gives_t.part) p.gives_t.rest _ (owes_t ∙ sym (plain-owes-target users pubs _ plain k.begun.direct))
+
+    began : relay_began s.basis left ≡ true
+    began = let facts = plain-relay-facts users pubs generation config cap h marks a.state k.at k.begun.plain k.begun.reaches k.begun.uncaused k.begun.direct in
+        began-same s a.state p.takes_c.part p.takes_t.part (p.takes_c.ends || a.state.end_c) (p.takes_t.ends || a.state.end_t) (granted a.state.decisions) facts ∙ facts.began
+
+    shut-due : (other shut : Bool) (pending : List ℕ) → other ≡ true → shut ≡ false → pending ≡ [] → relay_began s.basis left && other && not shut && is_nothing pending ≡ true
+    shut-due other shut pending e1 e2 e3 = (λ i. began i && e1 i && not (e2 i) && is_nothing (e3 i))
+
+    client-unshut : pass.gave_c ≡ Give.Unshut → may_be_shut s.basis left Object.Client ≡ true
+    client-unshut e = let w = unshut-left p.gives_c e in shut-due (p.takes_t.ends || a.state.end_t) (p.gives_c.shuts || a.state.shut_c) (pending_to_client s.basis left)
+        (sym p.takes_t.ended' ∙ ended-of p.takes_t w.1) (sym p.gives_c.shut' ∙ w.2) (pending-c ∙ w.0)
+
+    target-unshut : pass.gave_t ≡ Give.Unshut → may_be_shut s.basis left Object.Target ≡ true
+    target-unshut e = let w = unshut-left p.gives_t e in shut-due (p.takes_c.ends || a.state.end_c) (p.gives_t.shuts || a.state.shut_t) (pending_to_target s.basis left)
+        (sym p.takes_c.ended' ∙ ended-of p.takes_c w.1) (sym p.gives_t.shut' ∙ w.2) (pending-t ∙ w.0)
+
+    client-gave : (give : Give) → pass.gave_c ≡ give → FailsWhere s.basis behind left Object.Client (failed_giving give)
+    client-gave Give.Held e = tt
+    client-gave Give.All e = tt
+    client-gave Give.Full e = tt
+    client-gave Give.Unwritten e = pending-left p.gives_c.rest _ pending-c (unwritten-left p.gives_c (ap is_unwritten e)).0
+    client-gave Give.Unshut e = client-unshut e
+
+    where-client : (take : Take) (give : Give) → pass.took_c ≡ take → pass.gave_c ≡ give → FailsWhere s.basis behind left Object.Client (first_failed (failed_taking take) (failed_giving give))
+    where-client Take.Failed give e1 e2 = ap (λ q. reads_in behind q Object.Client) (phase-of p.takes_c.ends p.takes_t.ends) ∙ ap not (sym p.takes_c.ended' ∙ (unread-of p.takes_c (ap is_read e1)).0)
+    where-client Take.Unread give e1 e2 = client-gave give e2
+    where-client Take.Ended give e1 e2 = client-gave give e2
+    where-client Take.NotYet give e1 e2 = client-gave give e2
+    where-client Take.Quantum give e1 e2 = client-gave give e2
+    where-client Take.Held give e1 e2 = client-gave give e2
+
+    target-took : (take : Take) → pass.took_t ≡ take → FailsWhere s.basis behind left Object.Target (failed_taking take)
+    target-took Take.Failed e = ap (λ q. reads_in behind q Object.Target) (phase-of p.takes_c.ends p.takes_t.ends) ∙ ap not (sym p.takes_t.ended' ∙ (unread-of p.takes_t (ap is_read e)).0)
+    target-took Take.Unread e = tt
+    target-took Take.Ended e = tt
+    target-took Take.NotYet e = tt
+    target-took Take.Quantum e = tt
+    target-took Take.Held e = tt
+
+    where-target : (take : Take) (give : Give) → pass.took_t ≡ take → pass.gave_t ≡ give → FailsWhere s.basis behind left Object.Target (first_failed (failed_giving give) (failed_taking take))
+    where-target take Give.Held e1 e2 = target-took take e1
+    where-target take Give.All e1 e2 = target-took take e1
+    where-target take Give.Full e1 e2 = target-took take e1
+    where-target take Give.Unwritten e1 e2 = pending-left p.gives_t.rest _ pending-t (unwritten-left p.gives_t (ap is_unwritten e2)).0
+    where-target take Give.Unshut e1 e2 = target-unshut e2

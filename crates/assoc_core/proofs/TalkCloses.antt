@@ -28,7 +28,7 @@ use Rattle.assoc_core.specs.declared.assoc.Next.{Next}
 use Rattle.assoc_core.specs.Closing.{Closed}
 use Rattle.assoc_core.specs.Hearing.{IsAtEnd}
 use Rattle.assoc_core.specs.Stands.{Stands, GivesFirst}
-use Rattle.assoc_core.specs.Turns.{Turns, FaultIs, links, StopsReading, IsIdle, is_write}
+use Rattle.assoc_core.specs.Turns.{Turns, FaultIs, links, StopsReading, IsIdle, is_write, FailsWhere}
 use Rattle.assoc_core.proofs.Tryings.{tried-as}
 use Rattle.assoc_core.proofs.Talking.{Hearing, talker, basis_of, context_of, before, heard_takings, answered, let_in}
 use Rattle.assoc_core.proofs.TalkTurns.{turns-talked, talk_acts, talk_event, heard_told, with_state}
@@ -105,6 +105,7 @@ pub record ClosesTalk {L : Type 0} (told : L → Told) (counts : L → Counts) (
   pub idle_c : idle ≡ true → IsIdle (told b.client) × Rose (counts a.client).idle_reads (counts b.client).idle_reads
   pub failed : Option Kind
   pub tried : Tried (counts a.client) (counts b.client) ((t.x ≡ []) × (ends ≡ false) × (idle ≡ false)) (y ≡ []) (Unit {0}) failed
+  pub where_c : FailsWhere (basis_of t) behind (caused t sent ends (Some cause)) Object.Client failed
   pub fault_is : FaultIs fault failed None
   pub unwritten_is : unwritten ≡ is_write failed
   pub fails_c : fault ≡ Some Object.Client → Rose (counts a.client).faults (counts b.client).faults
@@ -149,6 +150,7 @@ turns-closed told counts stands t net a b e y sent ends idle fault unwritten cau
       failed = h.failed;
       tried = subst (λ (z : _). Tried (counts a.client) (counts z) ((t.x ≡ []) × (ends ≡ false) × (idle ≡ false)) ((y ≡ []) × (false ≡ false)) (Unit {0}) h.failed) (sym closed.client)
           (tried-as h.tried (λ x. x) (λ x. (x, refl)) (λ x. tt));
+      where_c = h.where_c;
       fault_is = h.fault_is;
       unwritten_is = h.unwritten_is;
       fails_c = λ e1. subst (λ (z : _). Rose (counts a.client).faults (counts z).faults) (sym closed.client) (h.fails_c e1);

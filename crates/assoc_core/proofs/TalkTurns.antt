@@ -24,7 +24,7 @@ use Rattle.assoc_core.specs.declared.assoc.Next.{Next}
 use Rattle.assoc_core.specs.Hearing.{IsAtEnd}
 use Rattle.assoc_core.specs.Plain.{owed_c}
 use Rattle.assoc_core.specs.Stands.{GoesDirect, Stands, Holds, EndsBehind, GivesFirst, HoldsTarget}
-use Rattle.assoc_core.specs.Turns.{Turns, Acts, event_of, links, mark_of, left_of, GoesOn, IsIdle, IsFull, SameOutside, SameTarget, DialsAre, FaultIs, LookupsAre, PlanStays, IsOuterOf, CountRose, StopsReading, TriedTarget, is_write}
+use Rattle.assoc_core.specs.Turns.{Turns, Acts, event_of, links, mark_of, left_of, GoesOn, IsIdle, IsFull, SameOutside, SameTarget, DialsAre, FaultIs, LookupsAre, PlanStays, IsOuterOf, CountRose, StopsReading, TriedTarget, is_write, FailsWhere}
 use Rattle.assoc_core.proofs.StandsLaws.{SameTargetSide, target-same, same-target}
 use Rattle.assoc_core.proofs.Tryings.{target-untried, tried-as}
 use Rattle.assoc_core.proofs.Talking.{Hearing, Speaking, basis_of, context_of, before, speaking, spoken_to, spoken_in, unspoken, spoken_takings}
@@ -139,6 +139,7 @@ pub record Talked {L : Type 0} (told : L → Told) (counts : L → Counts) (stan
       × (length (result.left).sent_c < length (owed_c result.left))
   pub failed : Option Kind
   pub tried : Tried (counts a.client) (counts (left_of next).client) ((t.x ≡ []) × (ends ≡ false) × (idle ≡ false)) ((y ≡ []) × (full ≡ false)) (Unit {0}) failed
+  pub where_c : FailsWhere (spoken_to t) behind result.left Object.Client failed
   pub fault_is : FaultIs fault failed None
   pub unwritten_is : unwritten ≡ is_write failed
   pub fails_c : fault ≡ Some Object.Client → Rose (counts a.client).faults (counts (left_of next).client).faults
@@ -221,6 +222,8 @@ turns-called {L = L} told counts stands t now net net' a next y ends outer idle 
   tried_c = tried-as h.tried (λ x. x) (λ x. (ap (λ (z : List ℕ). length z) x.0, x.1)) (λ x. refl);
   tried_t = subst (λ (o : Option L). TriedTarget counts net a.target o ((acts'.t ≡ []) × (acts'.end_t ≡ false) × (acts'.idle_t ≡ false)) ((acts'.sent_t ≡ 0) × (acts'.full_t ≡ false)) (acts'.shut_t ≡ false) None) (sym h.target')
       (target-untried counts net a.target (refl, refl, refl) (refl, refl) refl);
+  where_c = h.where_c;
+  where_t = tt;
   fault_is = h.fault_is;
   unwritten_is = h.unwritten_is ∙ sym (or-false (is_write h.failed));
   fails_c = h.fails_c;

@@ -48,6 +48,7 @@ use Rattle.assoc_core.proofs.Talking.{Hearing, basis_of, context_of, before, hea
 use Rattle.assoc_core.proofs.TalkTurns.{turns-talked, talk_acts, talk_event, heard_told, with_state}
 use Rattle.assoc_core.proofs.TalkCloses.{turns-closed, caused, talk-stages}
 use Rattle.assoc_core.proofs.Tryings.{tried-as, tried-on}
+use Rattle.assoc_core.proofs.Failable.{left-over}
 
 -- ---- the cause of a refused input
 
@@ -216,6 +217,7 @@ turns-away {L = L} told counts stands users pubs generation config most h marks 
           idle_c = λ e1. absurd (cc);
           failed = None;
           tried = tried Sent.All is;
+          where_c = tt;
           fault_is = (refl, refl);
           unwritten_is = refl;
           fails_c = λ e1. absurd (cc);
@@ -251,6 +253,7 @@ turns-away {L = L} told counts stands users pubs generation config most h marks 
           idle_c = λ e1. absurd (cc);
           failed = Some Kind.Write;
           tried = tried Sent.Failed is;
+          where_c = left-over s.sent_c w.rest (owes_now t (Some cause)) _ (owes-caused t s.sent_c false (Some cause) w.fits) w.all some;
           fault_is = refl;
           unwritten_is = refl;
           fails_c = λ e1. rose-before _ _ _ ((k.hears).later).faults rose;
@@ -321,6 +324,7 @@ waits-away told counts stands users pubs generation config most h marks now net 
       full_c = λ e1. (w.ends.1, rose-before _ _ _ ((k.hears).later).idle_writes w.ends.2, short s.sent_c w.rest (owes_now t (Some cause)) w.all w.ends.0);
       failed = None;
       tried = tried-as w.tried (λ x. (x, refl, refl)) (λ x. x) (λ x. tt);
+      where_c = tt;
       fault_is = (refl, refl);
       unwritten_is = refl;
       fails_c = λ e1. absurd (cc);

@@ -1,11 +1,12 @@
 -- A turn of the association is one that the script allows.
 use Rattle.std.proofs.Common.{ℕ, ◌≡◌, ◌<◌, ◌≤◌, inl, inr, ◌+◌, ◌∙◌, sym, ap, subst, refl, Bool, true, false, ◌&&◌, Option, Some, None, is_some, List, [], ◌∷◌, ◌++◌, length, map, arith, length-append}
 use Rattle.std.proofs.lemmas.List.Elements.{All-cons}
-use Rattle.std.specs.Prelude.{IfSome, All, Contains, IsTrue}
+use Rattle.std.specs.Prelude.{IfSome, All, IsTrue}
 use mathlib.Core.List.{IsPrefix}
 use Rattle.addr_pattern.specs.declared.endpoint.Endpoint.{Endpoint}
 use Rattle.conf_types.specs.declared.entries.Entries.{Entries}
 use Rattle.socks_grammar.specs.declared.protocol.Command.{Command}
+use Rattle.net_ends.specs.declared.kinds.Kind.{Kind}
 use Rattle.net_ends.specs.declared.net.Lookup.{Lookup}
 use Rattle.net_ends.specs.Nets.{Plan}
 use Rattle.net_ends.specs.InMemory.{LinkInMemory, NetInMemory, told_of_link, told_of_net}
@@ -26,7 +27,8 @@ use Rattle.socks_machine.specs.Follows.{Allows, OuterFits, OuterIs, FaultsAre, E
 use Rattle.socks_machine.specs.History.{last_mark}
 use Rattle.rule_list.specs.Rules.{numbered}
 use Rattle.socks_machine.specs.Phase.{Phase, phase}
-use Rattle.socks_machine.specs.Script.{Outside, Surroundings, behind_turn, reached_as}
+use Rattle.socks_machine.specs.FailedCalls.{Failing}
+use Rattle.socks_machine.specs.Script.{Outside, Surroundings, behind_turn, can_fail_in, is_among, reached_as}
 use Rattle.socks_machine.specs.Step.{basis_of, step}
 use Rattle.socks_machine.specs.Taking.{holds, some_in, of_generation, reads_client, reads_target, reads_port, taken, with_client_bytes, pipe_size, ◌>>=◌}
 use Rattle.socks_machine.specs.Decisions.{Grant, Reaching, reached}
@@ -43,9 +45,9 @@ use Rattle.assoc_core.specs.declared.assoc.Assoc.{Assoc}
 use Rattle.assoc_core.specs.declared.assoc.Next.{Next}
 use Rattle.assoc_core.specs.Plain.{owed_c, owed_t, prelude_of}
 use Rattle.assoc_core.specs.Stands.{HoldsTarget}
-use Rattle.assoc_core.specs.Turns.{Turns, event_of, links, mark_of, left_of, context, IsOuterOf, IsFull, IsIdle, IsThereAnd, SameTarget, StopsReading, Filled, Unread, ReadsEnd, TakesNothing, outer_of, looked_as}
+use Rattle.assoc_core.specs.Turns.{Turns, FailsWhere, call_of, links, mark_of, left_of, context, IsOuterOf, IsFull, IsIdle, IsThereAnd, SameTarget, StopsReading, Filled, Unread, ReadsEnd, TakesNothing, outer_of, looked_as}
 use Rattle.replay_run.specs.Mirrors.{IsGoing, TargetIs, TargetMirrors, takes_nothing}
-use Rattle.replay_run.proofs.Failures.{Tries, done-not-failed, end-is-read, failed_in, faults-are}
+use Rattle.replay_run.proofs.Failures.{Tries, done-not-failed, end-is-read, event_with, failed_in, faults-are}
 use Rattle.replay_run.proofs.Narrowing.{is-nothing, not-nothing}
 use Rattle.replay_run.proofs.Outsides.{same-arrived, same-ends, same-cap, target-behind, owed-c-short, owed-t-short}
 
@@ -108,11 +110,13 @@ pub record Turning : Type 1 where
   pub going : IsGoing (basis_of w) n a net o
   pub turns : Turns told_of_link (λ (l : LinkInMemory). l.counts) stands' (context w.users w.pubs generation config w.cap w.h w.marks) now (told_of_net net) (told_of_net net') a next
   pub tries : Tries net a (left_of next) turns.acts
-  pub stepped : step w (Event.Turn (event_of 1 a.state.number now turns.acts (mark_of next))) ≡ Some new
+  pub where_c : FailsWhere (basis_of w) turns.behind (turns.result).left Object.Client tries.failed_c
+  pub where_t : FailsWhere (basis_of w) turns.behind (turns.result).left Object.Target tries.failed_t
+  pub stepped : step w (Event.Turn (event_with 1 a.state.number now turns.acts (mark_of next) (failed_in tries))) ≡ Some new
   pub behind' : numbered new.records a.state.number ≡ Some (turns.result).left
 
 abbrev pub event : Turning → TurnEvent
-event k = event_of 1 k.a.state.number k.now k.turns.acts (mark_of k.next)
+event k = event_with 1 k.a.state.number k.now k.turns.acts (mark_of k.next) (failed_in k.tries)
 
 abbrev left : Turning → Record
 left k = (k.turns.result).left
@@ -365,21 +369,30 @@ target-rest-told k h =
 
 -- ---- the faults
 
-faults-fit : (k : Turning) → FaultsAre k.o (event k) (failed_in k.tries)
-faults-fit k = faults-are 1 k.a.state.number k.now k.net k.a (left_of k.next) k.turns.acts (mark_of k.next) k.o k.tries k.going.fails k.going.target
+-- by the record behind what the turn took, and the one that it leaves
+could-fail : (k : Turning) → Failing → Bool
+could-fail k = can_fail_in (basis_of k.w) (taken (basis_of k.w) k.generation (k.config).methods (event k) k.a.state) (behind_turn k.w (event k))
+
+fails-where : (k : Turning) (x : Object) (failed : Option Kind) → FailsWhere (basis_of k.w) k.turns.behind (left k) x failed → IfSome failed (λ kind. could-fail k (x, call_of kind) ≡ true)
+fails-where k x None h = tt
+fails-where k x (Some kind) h =
+    (λ i. can_fail_in (basis_of k.w) (k.turns.taken' 1 i) (left-behind k i) (x, call_of kind)) ∙ h
+
+faults-fit : (k : Turning) → FaultsAre k.o (event k) (could-fail k)
+faults-fit k = faults-are 1 k.a.state.number k.now k.net k.a (left_of k.next) k.turns.acts (mark_of k.next) k.o k.tries (could-fail k) (fails-where k Object.Client (k.tries).failed_c k.where_c) (fails-where k Object.Target (k.tries).failed_t k.where_t) k.going.fails k.going.target
 
 -- where an end was read no read failed
-client-unfailed : (k : Turning) → k.turns.acts.end_c ≡ true → Contains (failed_in k.tries) (Object.Client, CallKind.Reading) → ⊥
-client-unfailed k e = done-not-failed k.o (event k) (failed_in k.tries) (Object.Client, CallKind.Reading) (faults-fit k)
+client-unfailed : (k : Turning) → k.turns.acts.end_c ≡ true → is_among (failed_in k.tries) (Object.Client, CallKind.Reading) ≡ false
+client-unfailed k e = done-not-failed k.o (event k) (could-fail k) (Object.Client, CallKind.Reading) (faults-fit k)
     (end-is-read (some_in k.turns.acts.c) k.turns.acts.end_c (holds Object.Client (event k).idle) e)
 
-target-unfailed : (k : Turning) → k.turns.acts.end_t ≡ true → Contains (failed_in k.tries) (Object.Target, CallKind.Reading) → ⊥
-target-unfailed k e = done-not-failed k.o (event k) (failed_in k.tries) (Object.Target, CallKind.Reading) (faults-fit k)
+target-unfailed : (k : Turning) → k.turns.acts.end_t ≡ true → is_among (failed_in k.tries) (Object.Target, CallKind.Reading) ≡ false
+target-unfailed k e = done-not-failed k.o (event k) (could-fail k) (Object.Target, CallKind.Reading) (faults-fit k)
     (end-is-read (some_in k.turns.acts.t) k.turns.acts.end_t (holds Object.Target (event k).idle) e)
 
 -- ---- the whole
 
-pub allows : (k : Turning) → Allows k.s k.w k.generation k.config k.o (event k) (failed_in k.tries) k.a.state
+pub allows : (k : Turning) → Allows k.s k.w k.generation k.config k.o (event k) k.a.state
 allows k = record {
   moment = sym k.moment;
   stop' = sym k.marks;

@@ -17,10 +17,9 @@ use Rattle.socks_machine.specs.declared.world.World.{World}
 use Rattle.socks_machine.specs.declared.cause.StopBy.{StopBy}
 use Rattle.socks_machine.specs.declared.lines.Line.{Line}
 use Rattle.socks_machine.specs.Calls.{Context}
-use Rattle.socks_machine.specs.Follows.{used_up}
 use Rattle.socks_machine.specs.History.{last_mark}
 use Rattle.socks_machine.specs.Phase.{is_udp}
-use Rattle.socks_machine.specs.Script.{Outside, Surroundings}
+use Rattle.socks_machine.specs.Script.{Outside, Surroundings, used_up}
 use Rattle.socks_machine.specs.Inputs.{is_served_input}
 use Rattle.socks_machine.specs.Step.{basis_of}
 use Rattle.socks_machine.specs.Transcript.{event_line, turn_line}
@@ -38,7 +37,7 @@ use Rattle.replay_run.specs.Played.{is_over}
 use Rattle.replay_run.specs.Shown.{turn_shown}
 use Rattle.replay_run.specs.Taken.{MakesTurn, WritesTurn, left_record, slot_of}
 use Rattle.replay_run.specs.Totals.{totals_of}
-use Rattle.replay_run.proofs.Failures.{Tries}
+use Rattle.replay_run.proofs.Failures.{Tries, event_with, failed_in}
 use Rattle.replay_run.proofs.Slots.{slot-at}
 use Rattle.replay_run.proofs.Turned as Turned
 use Rattle.replay_run.proofs.Turned.{turned}
@@ -87,14 +86,13 @@ turned-at users config k old new a net net' next still before at totals makes wr
   ev = ev;
   left = left;
   world = r.new;
-  failed = r.failed;
   is_turn = r.is_turn;
   stepped = r.stepped;
   over = goes-over ev next refl refl;
-  mirrors = subst (λ (z : Generations). Mirrors users (StandsFor new.desk) new.desk.cap new.moment (used_up s ev r.failed) r.new z new.slots) (sym gens)
-      (subst (λ (z : List Slot). Mirrors users (StandsFor new.desk) new.desk.cap new.moment (used_up s ev r.failed) r.new old.gens z) (sym slots)
-      (subst (λ (n : ℕ). Mirrors users (StandsFor new.desk) new.desk.cap n (used_up s ev r.failed) r.new old.gens (slice_set old.slots k (slot_of next net'))) (sym same-moment)
-      (subst (λ (n : ℕ). Mirrors users (StandsFor new.desk) n old.moment (used_up s ev r.failed) r.new old.gens (slice_set old.slots k (slot_of next net'))) (sym makes.cap) r.mirrors)));
+  mirrors = subst (λ (z : Generations). Mirrors users (StandsFor new.desk) new.desk.cap new.moment (used_up s ev) r.new z new.slots) (sym gens)
+      (subst (λ (z : List Slot). Mirrors users (StandsFor new.desk) new.desk.cap new.moment (used_up s ev) r.new old.gens z) (sym slots)
+      (subst (λ (n : ℕ). Mirrors users (StandsFor new.desk) new.desk.cap n (used_up s ev) r.new old.gens (slice_set old.slots k (slot_of next net'))) (sym same-moment)
+      (subst (λ (n : ℕ). Mirrors users (StandsFor new.desk) n old.moment (used_up s ev) r.new old.gens (slice_set old.slots k (slot_of next net'))) (sym makes.cap) r.mirrors)));
   still' = writes.still' ev refl refl refl took_c took_t put_c put_t;
   line = shown r.new (old.gens).seen ev left r.line';
   out = subst (λ (x : Record). new.out ≡ old.out ++ turn_shown (old.gens).seen ev x) is
@@ -105,7 +103,7 @@ turned-at users config k old new a net net' next still before at totals makes wr
 }
   where
     ev : TurnEvent
-    ev = event_of 1 a.state.number old.moment t.acts (mark_of next)
+    ev = event_with 1 a.state.number old.moment t.acts (mark_of next) (failed_in (tries-of net net' a next _ _ old.moment t))
 
     left : Record
     left = (t.result).left
@@ -117,7 +115,7 @@ turned-at users config k old new a net net' next still before at totals makes wr
     mark = sym (t.desk).mark ∙ makes.mark
 
     r : Turned.IsTurned users s w old.gens old.slots k ev (slot_of next net') left (StandsFor new.desk) old.desk.cap old.moment
-    r = turned users s w old.gens config old.slots k a net net' next (StandsFor old.desk) (StandsFor new.desk) old.desk.cap old.moment m is-config at t mark (tries-of net net' a next _ _ old.moment t)
+    r = turned users s w old.gens config old.slots k a net net' next (StandsFor old.desk) (StandsFor new.desk) old.desk.cap old.moment m is-config at t mark (tries-of net net' a next _ _ old.moment t) t.where_c t.where_t
 
     took_c : length (left_record next).c ≡ before.took_c + length ev.c
     took_c = longer (left_record next).c a.state.c ev.c before.took_c (ap (λ (x : Record). x.c) is ∙ t.c) (ap (λ (x : Totals). x.took_c) totals)

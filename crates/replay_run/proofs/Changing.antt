@@ -23,7 +23,7 @@ use Rattle.socks_machine.specs.declared.world.World.{World}
 use Rattle.socks_machine.specs.Script.{Outside, Surroundings, change, change_at, is_silent, outside_after, room_for}
 use Rattle.socks_machine.specs.Basis.{Basis}
 use Rattle.socks_machine.specs.Equal.{object_eq}
-use Rattle.socks_machine.specs.Follows.{Failing}
+use Rattle.socks_machine.specs.FailedCalls.{Failing}
 use Rattle.socks_machine.specs.Inputs.{is_served_input}
 use Rattle.socks_machine.specs.Step.{basis_of}
 use Rattle.assoc_core.specs.declared.assoc.Assoc.{Assoc}

@@ -9,17 +9,13 @@ use Rattle.net_ends.specs.Faults.{with_kind, without}
 use Rattle.socks_machine.specs.declared.script.CallKind.{CallKind}
 use Rattle.socks_machine.specs.declared.world.Object.{Object}
 use Rattle.socks_machine.specs.Equal.{object_eq}
-use Rattle.socks_machine.specs.Follows.{Failing, is_used}
-use Rattle.socks_machine.specs.Script.{is_fault}
+use Rattle.socks_machine.specs.FailedCalls.{Failing}
+use Rattle.socks_machine.specs.Script.{is_among, is_fault}
+use Rattle.assoc_core.specs.Turns.{call_of}
 use Rattle.replay_run.specs.Changes.{kind_of}
 use Rattle.replay_run.specs.Mirrors.{due_on}
 
 -- ---- failed calls
-
-abbrev pub call_of : Kind → CallKind
-call_of Kind.Read = CallKind.Reading
-call_of Kind.Write = CallKind.Writing
-call_of Kind.Shut = CallKind.Shutting
 
 -- the call on the link of an object that failed, if one did
 abbrev pub failed_on : Object → Option Kind → List Failing
@@ -75,27 +71,6 @@ itself (Object.Door, CallKind.Shutting) = refl
 itself (Object.Port, CallKind.Reading) = refl
 itself (Object.Port, CallKind.Writing) = refl
 itself (Object.Port, CallKind.Shutting) = refl
-
--- ---- one among others
-
-pub here : {A : Type 0} (x : A) (xs : List A) → Contains (x ∷ xs) x
-here x xs = (0, omega arith, refl)
-
-pub later : {A : Type 0} (x y : A) (xs : List A) → Contains xs y → Contains (x ∷ xs) y
-later x y xs h = (suc h.0, (let within : h.0 < length xs = h.1 in omega arith), h.2)
-
-either : (a b : Bool) → (a || b) ≡ true → a ≡ false → b ≡ true
-either true b h none = cc
-either false b h none = h
-
--- a call that is to fail is one of those that the script names
-pub named : (x : Object) (call : CallKind) (fs : List Failing) → list_any (is_fault x call) fs ≡ true → Contains fs (x, call)
-named x call [] h = cc
-named x call (f ∷ fs) h = by (is_fault x call f) refl (named x call fs)
-  where
-    by : (b : Bool) → is_fault x call f ≡ b → (list_any (is_fault x call) fs ≡ true → Contains fs (x, call)) → Contains (f ∷ fs) (x, call)
-    by true e rest = subst (λ (z : Failing). Contains (z ∷ fs) (x, call)) (sym (fault-is x call f e)) (here (x, call) fs)
-    by false e rest = later f (x, call) fs (rest (either (is_fault x call f) (list_any (is_fault x call) fs) h e))
 
 -- ---- behind a line
 
@@ -165,14 +140,14 @@ any-gone p q h (f ∷ fs) = by (p f) (q f) refl refl (any-gone p q h fs)
     by true true is kept rest = let k : q f ≡ false = h f is in absurd (cc)
 
 -- a call that failed is not named any more, and the others are
-left-gone : (x : Object) (call : CallKind) (used fs : List Failing) → list_any (is_fault x call) used ≡ true → list_any (is_fault x call) (filter (λ f. not (is_used used f)) fs) ≡ false
-left-gone x call used fs h = any-gone (is_fault x call) (λ f. not (is_used used f)) (λ f is. ap (λ (z : Failing). not (is_used used z)) (fault-is x call f is) ∙ ap not h) fs
+left-gone : (x : Object) (call : CallKind) (used fs : List Failing) → list_any (is_fault x call) used ≡ true → list_any (is_fault x call) (filter (λ f. not (is_among used f)) fs) ≡ false
+left-gone x call used fs h = any-gone (is_fault x call) (λ f. not (is_among used f)) (λ f is. ap (λ (z : Failing). not (is_among used z)) (fault-is x call f is) ∙ ap not h) fs
 
-left-kept : (x : Object) (call : CallKind) (used fs : List Failing) → list_any (is_fault x call) used ≡ false → list_any (is_fault x call) (filter (λ f. not (is_used used f)) fs) ≡ list_any (is_fault x call) fs
-left-kept x call used fs h = any-kept (is_fault x call) (λ f. not (is_used used f)) (λ f is. ap (λ (z : Failing). not (is_used used z)) (fault-is x call f is) ∙ ap not h) fs
+left-kept : (x : Object) (call : CallKind) (used fs : List Failing) → list_any (is_fault x call) used ≡ false → list_any (is_fault x call) (filter (λ f. not (is_among used f)) fs) ≡ list_any (is_fault x call) fs
+left-kept x call used fs h = any-kept (is_fault x call) (λ f. not (is_among used f)) (λ f is. ap (λ (z : Failing). not (is_among used z)) (fault-is x call f is) ∙ ap not h) fs
 
 due-left : (x : Object) → object_eq x x ≡ true → (failed : Option Kind) (used fs : List Failing) → ((call : CallKind) → list_any (is_fault x call) used ≡ list_any (is_fault x call) (failed_on x failed))
-    → due_on x (filter (λ f. not (is_used used f)) fs) ≡ without (due_on x fs) failed
+    → due_on x (filter (λ f. not (is_among used f)) fs) ≡ without (due_on x fs) failed
 due-left x same None used fs h = λ i. record {
   reads = left-kept x CallKind.Reading used fs (h CallKind.Reading) i;
   writes = left-kept x CallKind.Writing used fs (h CallKind.Writing) i;
@@ -198,11 +173,11 @@ any-of-other : (x y : Object) → object_eq x y ≡ false → (call : CallKind) 
 any-of-other x y other call None = refl
 any-of-other x y other call (Some kind) = ap (λ b. b || false) (fault-of-other x y other call (call_of kind))
 
-pub due-left-c : (c t : Option Kind) (fs : List Failing) → due_on Object.Client (filter (λ f. not (is_used (failed_calls c t) f)) fs) ≡ without (due_on Object.Client fs) c
+pub due-left-c : (c t : Option Kind) (fs : List Failing) → due_on Object.Client (filter (λ f. not (is_among (failed_calls c t) f)) fs) ≡ without (due_on Object.Client fs) c
 due-left-c c t fs = due-left Object.Client refl c (failed_calls c t) fs (λ call. list_any-append (is_fault Object.Client call) (failed_on Object.Client c) (failed_on Object.Target t)
     ∙ (ap (λ b. list_any (is_fault Object.Client call) (failed_on Object.Client c) || b) (any-of-other Object.Client Object.Target refl call t)
     ∙ or-false (list_any (is_fault Object.Client call) (failed_on Object.Client c))))
 
-pub due-left-t : (c t : Option Kind) (fs : List Failing) → due_on Object.Target (filter (λ f. not (is_used (failed_calls c t) f)) fs) ≡ without (due_on Object.Target fs) t
+pub due-left-t : (c t : Option Kind) (fs : List Failing) → due_on Object.Target (filter (λ f. not (is_among (failed_calls c t) f)) fs) ≡ without (due_on Object.Target fs) t
 due-left-t c t fs = due-left Object.Target refl t (failed_calls c t) fs (λ call. list_any-append (is_fault Object.Target call) (failed_on Object.Client c) (failed_on Object.Target t)
     ∙ ap (λ b. b || list_any (is_fault Object.Target call) (failed_on Object.Target t)) (any-of-other Object.Target Object.Client refl call c))

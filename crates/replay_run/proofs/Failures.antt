@@ -1,9 +1,8 @@
 -- The calls that failed in a turn are such as the script says, and no call that it says is to fail was done.
-use Rattle.std.proofs.Common.{ℕ, ◌≡◌, ◌∙◌, sym, ap, subst, refl, Bool, true, false, ◌||◌, Option, Some, None, List, [], ◌∷◌, ◌++◌, nat_lt}
-use Rattle.std.proofs.lemmas.List.Elements.{All-cons, All-nil}
+use Rattle.std.proofs.Common.{ℕ, ◌≡◌, ◌∙◌, sym, ap, subst, refl, Bool, true, false, ◌&&◌, ◌||◌, not, Option, Some, None, List, [], ◌∷◌, ◌++◌, append-nil, nat_lt}
 use Rattle.std.proofs.lemmas.List.Folds.{list_any-append}
-use Rattle.std.specs.Prelude.{IfSome, All, Contains}
-use Rattle.std.specs.List.{list_any}
+use Rattle.std.specs.Prelude.{IfSome}
+use Rattle.std.specs.List.{list_all, list_any}
 use Rattle.net_ends.specs.declared.kinds.Kind.{Kind}
 use Rattle.net_ends.specs.declared.kinds.Kinds.{Kinds}
 use Rattle.net_ends.specs.Counts.{Counts}
@@ -13,13 +12,14 @@ use Rattle.socks_machine.specs.declared.script.CallKind.{CallKind}
 use Rattle.socks_machine.specs.declared.world.NextMark.{NextMark}
 use Rattle.socks_machine.specs.declared.world.Object.{Object}
 use Rattle.socks_machine.specs.declared.world.TurnEvent.{TurnEvent}
-use Rattle.socks_machine.specs.Follows.{Failing, FaultsAre, writes_link}
-use Rattle.socks_machine.specs.Script.{Outside, did, is_fault}
+use Rattle.socks_machine.specs.FailedCalls.{Failing}
+use Rattle.socks_machine.specs.Follows.{FaultsAre}
+use Rattle.socks_machine.specs.Script.{Outside, did, has_first, is_among as is_named, is_fault, writes_link}
 use Rattle.socks_machine.specs.Taking.{holds, some_in}
 use Rattle.assoc_core.specs.declared.assoc.Assoc.{Assoc}
-use Rattle.assoc_core.specs.Turns.{Acts, FaultIs, TriedTarget, event_of, is_write, links}
+use Rattle.assoc_core.specs.Turns.{Acts, FaultIs, TriedTarget, call_of, event_of, is_write, links}
 use Rattle.replay_run.specs.Mirrors.{FailsAs, TargetMirrors, due_on}
-use Rattle.replay_run.proofs.Due.{call_of, failed_on, failed_calls, here, itself, later, named}
+use Rattle.replay_run.proofs.Due.{failed_on, failed_calls, fault-is, itself}
 
 -- what a turn tells of the calls that failed in it, on the client's link and on the target's
 pub record Tries (net : NetInMemory) (a z : Assoc LinkInMemory) (acts : Acts) : Type 0 where
@@ -57,19 +57,26 @@ calls-on-target None (Some l) net o failed m t =
 calls-on-target (Some k) None net o failed m t = absurd t
 calls-on-target (Some k) (Some l) net o failed m t = calls-on k.counts l.counts (due_on Object.Target o.faults) failed t m.1
 
--- ---- the script names what failed
+-- ---- each call that failed
 
-named-on : (x : Object) (fs ys : List Failing) (failed : Option Kind) → IfSome failed (λ kind. is_among (due_on x fs) kind ≡ true) → All (Contains fs) ys → All (Contains fs) (failed_on x failed ++ ys)
-named-on x fs ys None h all = all
-named-on x fs ys (Some Kind.Read) h all = All-cons (Contains fs) (x, CallKind.Reading) ys (named x CallKind.Reading fs h) all
-named-on x fs ys (Some Kind.Write) h all = All-cons (Contains fs) (x, CallKind.Writing) ys (named x CallKind.Writing fs h) all
-named-on x fs ys (Some Kind.Shut) h all = All-cons (Contains fs) (x, CallKind.Shutting) ys (named x CallKind.Shutting fs h) all
+and-true : (a b : Bool) → a ≡ true → b ≡ true → (a && b) ≡ true
+and-true true b h k = k
+and-true false b h k = cc
 
-named-alone : (x : Object) (fs : List Failing) (failed : Option Kind) → IfSome failed (λ kind. is_among (due_on x fs) kind ≡ true) → All (Contains fs) (failed_on x failed)
-named-alone x fs None h = All-nil (Contains fs)
-named-alone x fs (Some Kind.Read) h = All-cons (Contains fs) (x, CallKind.Reading) [] (named x CallKind.Reading fs h) (All-nil (Contains fs))
-named-alone x fs (Some Kind.Write) h = All-cons (Contains fs) (x, CallKind.Writing) [] (named x CallKind.Writing fs h) (All-nil (Contains fs))
-named-alone x fs (Some Kind.Shut) h = All-cons (Contains fs) (x, CallKind.Shutting) [] (named x CallKind.Shutting fs h) (All-nil (Contains fs))
+-- a test of the call that failed on an object, and of others
+all-on : (p : Failing → Bool) (x : Object) (failed : Option Kind) (ys : List Failing) → IfSome failed (λ kind. p (x, call_of kind) ≡ true) → list_all p ys ≡ true → list_all p (failed_on x failed ++ ys) ≡ true
+all-on p x None ys h all = all
+all-on p x (Some kind) ys h all = and-true (p (x, call_of kind)) (list_all p ys) h all
+
+all-failed : (p : Failing → Bool) (c t : Option Kind) → IfSome c (λ kind. p (Object.Client, call_of kind) ≡ true) → IfSome t (λ kind. p (Object.Target, call_of kind) ≡ true) → list_all p (failed_calls c t) ≡ true
+all-failed p c t on-c on-t = all-on p Object.Client c (failed_on Object.Target t) on-c (subst (λ (z : List Failing). list_all p z ≡ true) (append-nil (failed_on Object.Target t)) (all-on p Object.Target t [] on-t refl))
+
+-- the script names it
+named-as : (x : Object) (fs : List Failing) (failed : Option Kind) → IfSome failed (λ kind. is_among (due_on x fs) kind ≡ true) → IfSome failed (λ kind. is_named fs (x, call_of kind) ≡ true)
+named-as x fs None h = tt
+named-as x fs (Some Kind.Read) h = h
+named-as x fs (Some Kind.Write) h = h
+named-as x fs (Some Kind.Shut) h = h
 
 -- ---- no call that the script names was done
 
@@ -106,11 +113,11 @@ no-port true false = refl
 no-port false true = refl
 no-port false false = refl
 
--- what is true of each call that is among these
-all-where : (P : Failing → Type 0) (fs : List Failing) → ((f : Failing) → list_any (is_fault f.0 f.1) fs ≡ true → P f) → All P fs
-all-where P [] h = All-nil P
-all-where P (f ∷ fs) h = All-cons P f fs (h f (ap (λ b. b || list_any (is_fault f.0 f.1) fs) (itself f)))
-    (all-where P fs (λ g is. h g (then-too (is_fault g.0 g.1 f) (list_any (is_fault g.0 g.1) fs) is)))
+-- what is false of each call that is among these
+none-where : (p : Failing → Bool) (fs : List Failing) → ((f : Failing) → is_named fs f ≡ true → p f ≡ false) → list_any p fs ≡ false
+none-where p [] h = refl
+none-where p (f ∷ fs) h = none-either (p f) (list_any p fs) (h f (ap (λ b. b || list_any (is_fault f.0 f.1) fs) (itself f)))
+    (none-where p fs (λ g is. h g (then-too (is_fault g.0 g.1 f) (list_any (is_fault g.0 g.1) fs) is)))
   where
     then-too : (a b : Bool) → b ≡ true → (a || b) ≡ true
     then-too true b h = refl
@@ -119,7 +126,7 @@ all-where P (f ∷ fs) h = All-cons P f fs (h f (ap (λ b. b || list_any (is_fau
 undone-call : (worker number now : ℕ) (acts : Acts) (next : NextMark) (c t : Option Kind) (fs : List Failing)
     → Calls (due_on Object.Client fs) ((acts.c ≡ []) × (acts.end_c ≡ false) × (acts.idle_c ≡ false)) ((acts.sent_c ≡ 0) × (acts.full_c ≡ false)) (acts.shut_c ≡ false) c
     → Calls (due_on Object.Target fs) ((acts.t ≡ []) × (acts.end_t ≡ false) × (acts.idle_t ≡ false)) ((acts.sent_t ≡ 0) × (acts.full_t ≡ false)) (acts.shut_t ≡ false) t
-    → (f : Failing) → list_any (is_fault f.0 f.1) fs ≡ true → did (event_of worker number now acts next) f ≡ false
+    → (f : Failing) → is_named fs f ≡ true → did (event_of worker number now acts next) f ≡ false
 undone-call worker number now acts next c t fs client target (Object.Client, CallKind.Reading) is = let h = client.reads is in
     none-of (some_in acts.c) acts.end_c (holds Object.Client (links acts.idle_c acts.idle_t)) (ap some_in h.0) h.1 (client-unlisted acts.idle_c acts.idle_t h.2)
 undone-call worker number now acts next c t fs client target (Object.Client, CallKind.Writing) is = let h = client.writes is in
@@ -139,16 +146,12 @@ undone-call worker number now acts next c t fs client target (Object.Port, CallK
 
 -- ---- the call that failed first, and failed writes
 
-none-failed : (fault : Option Object) (c t : Option Kind) → FaultIs fault c t → fault ≡ None → failed_calls c t ≡ []
-none-failed None c t h e = λ i. failed_calls (h.0 i) (h.1 i)
-none-failed (Some x) c t h e = cc
-
-first-failed : (fault : Option Object) (c t : Option Kind) → FaultIs fault c t → IfSome fault (λ x. (k : CallKind) × Contains (failed_calls c t) (x, k))
-first-failed None c t h = tt
-first-failed (Some Object.Client) (Some kind) t h = (call_of kind, here (Object.Client, call_of kind) (failed_on Object.Target t))
+first-failed : (fault : Option Object) (c t : Option Kind) → FaultIs fault c t → has_first fault (failed_calls c t) ≡ true
+first-failed None c t h = λ i. not (some_in (failed_calls (h.0 i) (h.1 i)))
+first-failed (Some Object.Client) (Some kind) t h = refl
 first-failed (Some Object.Client) None t h = cc
-first-failed (Some Object.Target) None (Some kind) h = (call_of kind, here (Object.Target, call_of kind) [])
-first-failed (Some Object.Target) (Some k) (Some kind) h = (call_of kind, later (Object.Client, call_of k) (Object.Target, call_of kind) ((Object.Target, call_of kind) ∷ []) (here (Object.Target, call_of kind) []))
+first-failed (Some Object.Target) None (Some kind) h = refl
+first-failed (Some Object.Target) (Some k) (Some kind) h = refl
 first-failed (Some Object.Target) c None h = cc
 first-failed (Some Object.Door) c t h = absurd h
 first-failed (Some Object.Port) c t h = absurd h
@@ -170,14 +173,19 @@ written c t = (λ i. written-c c i || written-t t i) ∙ sym (list_any-append wr
 
 -- ---- the whole
 
-pub faults-are : (worker number now : ℕ) (net : NetInMemory) (a z : Assoc LinkInMemory) (acts : Acts) (next : NextMark) (o : Outside) (t : Tries net a z acts)
-    → FailsAs a.client Object.Client o → TargetMirrors a.target net o → FaultsAre o (event_of worker number now acts next) (failed_in t)
-faults-are worker number now net a z acts next o t client target = record {
-  named = named-on Object.Client o.faults (failed_on Object.Target t.failed_t) t.failed_c on-client.was_due (named-alone Object.Target o.faults t.failed_t on-target.was_due);
-  undone = all-where (λ f. did (event_of worker number now acts next) f ≡ false) o.faults (undone-call worker number now acts next t.failed_c t.failed_t o.faults on-client on-target);
-  none = none-failed acts.fault t.failed_c t.failed_t t.fault_is;
+-- the event of a turn, with the calls that failed in it
+abbrev pub event_with : ℕ → ℕ → ℕ → Acts → NextMark → List Failing → TurnEvent
+event_with worker number now acts next failed = record (event_of worker number now acts next) { failed = failed }
+
+pub faults-are : (worker number now : ℕ) (net : NetInMemory) (a z : Assoc LinkInMemory) (acts : Acts) (next : NextMark) (o : Outside) (t : Tries net a z acts) (can : Failing → Bool)
+    → IfSome t.failed_c (λ kind. can (Object.Client, call_of kind) ≡ true) → IfSome t.failed_t (λ kind. can (Object.Target, call_of kind) ≡ true)
+    → FailsAs a.client Object.Client o → TargetMirrors a.target net o → FaultsAre o (event_with worker number now acts next (failed_in t)) can
+faults-are worker number now net a z acts next o t can can-c can-t client target = record {
+  named = all-failed (is_named o.faults) t.failed_c t.failed_t (named-as Object.Client o.faults t.failed_c on-client.was_due) (named-as Object.Target o.faults t.failed_t on-target.was_due);
+  undone = none-where (did (event_of worker number now acts next)) o.faults (undone-call worker number now acts next t.failed_c t.failed_t o.faults on-client on-target);
+  could = all-failed can t.failed_c t.failed_t can-c can-t;
   first = first-failed acts.fault t.failed_c t.failed_t t.fault_is;
-  unwritten = (λ h. sym same ∙ h, λ h. same ∙ h);
+  unwritten = t.unwritten_is ∙ written t.failed_c t.failed_t;
 }
   where
     on-client : Calls (due_on Object.Client o.faults) ((acts.c ≡ []) × (acts.end_c ≡ false) × (acts.idle_c ≡ false)) ((acts.sent_c ≡ 0) × (acts.full_c ≡ false)) (acts.shut_c ≡ false) t.failed_c
@@ -186,17 +194,49 @@ faults-are worker number now net a z acts next o t client target = record {
     on-target : Calls (due_on Object.Target o.faults) ((acts.t ≡ []) × (acts.end_t ≡ false) × (acts.idle_t ≡ false)) ((acts.sent_t ≡ 0) × (acts.full_t ≡ false)) (acts.shut_t ≡ false) t.failed_t
     on-target = calls-on-target a.target z.target net o t.failed_t target t.tried_t
 
-    same : acts.unwritten ≡ list_any writes_link (failed_in t)
-    same = t.unwritten_is ∙ written t.failed_c t.failed_t
-
 -- ---- a call that was done hasn't failed
 
-of-all : {A : Type 0} (P : A → Type 0) (xs : List A) (x : A) → All P xs → Contains xs x → P x
-of-all P xs x all h = subst P h.2 (all h.0 x h.1)
+-- a call that no line names is none of the calls that lines name
+unnamed : (f : Failing) (fs xs : List Failing) → list_all (is_named fs) xs ≡ true → is_named fs f ≡ false → is_named xs f ≡ false
+unnamed f fs [] all none = refl
+unnamed f fs (x ∷ xs) all none = none-either (is_fault f.0 f.1 x) (is_named xs f) (by (is_fault f.0 f.1 x) refl) (unnamed f fs xs (second (is_named fs x) (list_all (is_named fs) xs) all) none)
+  where
+    second : (a b : Bool) → (a && b) ≡ true → b ≡ true
+    second true b h = h
+    second false b h = cc
 
-pub done-not-failed : (o : Outside) (ev : TurnEvent) (used : List Failing) (f : Failing) → FaultsAre o ev used → did ev f ≡ true → Contains used f → ⊥
-done-not-failed o ev used f are done failed =
-    let undone : did ev f ≡ false = of-all (λ f. did ev f ≡ false) o.faults f are.undone (of-all (Contains o.faults) used f are.named failed) in cc
+    first : (a b : Bool) → (a && b) ≡ true → a ≡ true
+    first true b h = refl
+    first false b h = cc
+
+    by : (b : Bool) → is_fault f.0 f.1 x ≡ b → is_fault f.0 f.1 x ≡ false
+    by false e = e
+    by true e =
+        let named : is_named fs x ≡ true = first (is_named fs x) (list_all (is_named fs) xs) all in
+        let same : is_named fs x ≡ is_named fs f = ap (is_named fs) (fault-is f.0 f.1 x e) in
+        absurd (let both : true ≡ false = sym named ∙ (same ∙ none) in cc)
+
+-- .. and of a call that was done no line says that it fails
+done-unnamed : (ev : TurnEvent) (f : Failing) (fs : List Failing) → list_any (did ev) fs ≡ false → did ev f ≡ true → is_named fs f ≡ false
+done-unnamed ev f [] undone done = refl
+done-unnamed ev f (x ∷ fs) undone done = none-either (is_fault f.0 f.1 x) (is_named fs f) (by (is_fault f.0 f.1 x) refl) (done-unnamed ev f fs (second (did ev x) (list_any (did ev) fs) undone) done)
+  where
+    second : (a b : Bool) → (a || b) ≡ false → b ≡ false
+    second true b h = cc
+    second false b h = h
+
+    first : (a b : Bool) → (a || b) ≡ false → a ≡ false
+    first true b h = cc
+    first false b h = refl
+
+    by : (b : Bool) → is_fault f.0 f.1 x ≡ b → is_fault f.0 f.1 x ≡ false
+    by false e = e
+    by true e =
+        let same : did ev x ≡ did ev f = ap (did ev) (fault-is f.0 f.1 x e) in
+        absurd (let both : false ≡ true = sym (first (did ev x) (list_any (did ev) fs) undone) ∙ (same ∙ done) in cc)
+
+pub done-not-failed : (o : Outside) (ev : TurnEvent) (can : Failing → Bool) (f : Failing) → FaultsAre o ev can → did ev f ≡ true → is_named ev.failed f ≡ false
+done-not-failed o ev can f are done = unnamed f o.faults ev.failed are.named (done-unnamed ev f o.faults are.undone done)
 
 -- an end that was read is a read that was done
 pub end-is-read : (a b c : Bool) → b ≡ true → (a || b || c) ≡ true

@@ -134,7 +134,7 @@ publishes users script lines state k old gens out is written form b =
       w = w;
       played = subst (λ (z : List ℕ). Played script (lines ++ ScriptLine.Publish k ∷ []) b.s w z)
           (ap (λ z. old.out ++ z) (publish-line w k (length (old.gens.configs ++ k ∷ [])) (ap length pubs)) ∙ sym written)
-          (plays-event script lines b.s b.w w old.out (ScriptLine.Publish k) (Event.Publish k) [] b.played refl refl refl refl);
+          (plays-event script lines b.s b.w w old.out (ScriptLine.Publish k) (Event.Publish k) b.played refl refl refl refl);
       mirrors = record {
         moment' = b.mirrors.moment';
         users' = b.mirrors.users';
@@ -197,7 +197,7 @@ sees users script lines state old gens out is written some b =
       w = w;
       played = subst (λ (z : List ℕ). Played script (lines ++ ScriptLine.See 1 ∷ []) b.s w z)
           (ap (λ z. old.out ++ z) (see-line w (length (b.w).pubs) (length old.gens.configs) (ap length b.mirrors.pubs)) ∙ sym written)
-          (plays-event script lines b.s b.w w old.out (ScriptLine.See 1) (Event.See 1 (length (b.w).pubs)) [] b.played refl refl
+          (plays-event script lines b.s b.w w old.out (ScriptLine.See 1) (Event.See 1 (length (b.w).pubs)) b.played refl refl
           (see-step b.w old.gens b.mirrors.pubs b.mirrors.seen' b.mirrors.below some) refl);
       mirrors = record {
         moment' = b.mirrors.moment';
@@ -294,7 +294,7 @@ opens users script lines state number peer local old slots out more written allo
   w = w;
   played = subst (λ (z : List ℕ). Played script (lines ++ ScriptLine.Open 1 number peer local ∷ []) s w z)
       (ap (λ z. old.out ++ z) (open-line w number peer local old.moment) ∙ sym written)
-      (plays-event script lines b.s b.w w old.out (ScriptLine.Open 1 number peer local) (Event.Open 1 number peer local old.moment) [] b.played refl
+      (plays-event script lines b.s b.w w old.out (ScriptLine.Open 1 number peer local) (Event.Open 1 number peer local old.moment) b.played refl
       (ap (λ n. Event.Open 1 number peer local n) (sym b.mirrors.moment'))
       (open-step b.w old.gens.seen number peer local old.moment b.mirrors.seen' (ap (λ n. number == n + 1) records-count ∙ allowed)) refl);
   mirrors = record {

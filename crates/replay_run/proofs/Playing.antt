@@ -9,9 +9,9 @@ use Rattle.socks_machine.specs.declared.world.NextMark.{NextMark}
 use Rattle.socks_machine.specs.declared.world.TurnEvent.{TurnEvent}
 use Rattle.socks_machine.specs.declared.world.World.{World}
 use Rattle.socks_machine.specs.Equal.{mark_eq}
-use Rattle.socks_machine.specs.Follows.{Follows, Rounds, Closing, IsEventOf, IsTurnOf, Failing, surroundings_after, used_up, begins, IsReplay}
+use Rattle.socks_machine.specs.Follows.{Follows, Rounds, Closing, IsEventOf, IsTurnOf, begins, IsReplay}
 use Rattle.socks_machine.specs.History.{last_mark}
-use Rattle.socks_machine.specs.Script.{Surroundings, outside_after, is_silent, is_still, next_in_round, going, first_surroundings}
+use Rattle.socks_machine.specs.Script.{Surroundings, outside_after, is_silent, is_still, next_in_round, going, first_surroundings, surroundings_after, used_up}
 use Rattle.socks_machine.specs.Step.{step, steps, turns_end, goes_on, is_turn_of}
 use Rattle.socks_machine.specs.Taking.{◌>>=◌}
 use Rattle.socks_machine.specs.Transcript.{traced, line_before, event_line, with_rounds, with_ends, ends, line}
@@ -79,15 +79,15 @@ plays-silent script lines s w out l h silent = record {
 }
 
 -- a line with its event
-pub plays-event : (script lines : List ScriptLine) (s : Surroundings) (w new : World) (out : List ℕ) (l : ScriptLine) (e : Event) (used : List Failing)
-    → Played script lines s w out → is_silent w l ≡ false → IsEventOf (outside_after s l) w l e used → step w e ≡ Some new → is_over e ≡ true
-    → Played script (lines ++ l ∷ []) (surroundings_after (outside_after s l) e used) new (out ++ event_line new e)
-plays-event script lines s w new out l e used h loud is k over = record {
+pub plays-event : (script lines : List ScriptLine) (s : Surroundings) (w new : World) (out : List ℕ) (l : ScriptLine) (e : Event)
+    → Played script lines s w out → is_silent w l ≡ false → IsEventOf (outside_after s l) w l e → step w e ≡ Some new → is_over e ≡ true
+    → Played script (lines ++ l ∷ []) (surroundings_after (outside_after s l) e) new (out ++ event_line new e)
+plays-event script lines s w new out l e h loud is k over = record {
   events = h.events ++ e ∷ [];
   plays = λ rest more rounds f. subst (λ (z : List ScriptLine). Follows first_surroundings (begins script) z ((h.events ++ e ∷ []) ++ more) rounds)
       (sym (append_assoc lines (l ∷ []) rest))
       (subst (λ (z : List Event). Follows first_surroundings (begins script) (lines ++ l ∷ rest) z rounds) (sym (append_assoc h.events (e ∷ []) more))
-      (h.plays (l ∷ rest) (e ∷ more) rounds (Follows.happens used loud is k f)));
+      (h.plays (l ∷ rest) (e ∷ more) rounds (Follows.happens loud is k f)));
   traces = traces-more (begins script) h.events w new out e h.traces k over;
 }
 
@@ -184,16 +184,16 @@ rounds-begin script s w new out h some k = record {
 }
 
 -- a turn of a round
-pub round-goes-on : (script : List ScriptLine) (s : Surroundings) (w new : World) (n : ℕ) (ns : List ℕ) (still : Bool) (lo out : List ℕ) (ev : TurnEvent) (used : List Failing)
-    → InRounds script s w (n ∷ ns) still lo out → IsTurnOf s w 1 n ev used → step w (Event.Turn ev) ≡ Some new → is_over (Event.Turn ev) ≡ true
-    → InRounds script (used_up s ev used) new (next_in_round ns (still && is_still ev) (Some new)).0 (next_in_round ns (still && is_still ev) (Some new)).1
+pub round-goes-on : (script : List ScriptLine) (s : Surroundings) (w new : World) (n : ℕ) (ns : List ℕ) (still : Bool) (lo out : List ℕ) (ev : TurnEvent)
+    → InRounds script s w (n ∷ ns) still lo out → IsTurnOf s w 1 n ev → step w (Event.Turn ev) ≡ Some new → is_over (Event.Turn ev) ≡ true
+    → InRounds script (used_up s ev) new (next_in_round ns (still && is_still ev) (Some new)).0 (next_in_round ns (still && is_still ev) (Some new)).1
     lo (out ++ event_line new (Event.Turn ev))
-round-goes-on script s w new n ns still lo out ev used h is k over = record {
+round-goes-on script s w new n ns still lo out ev h is k over = record {
   events = h.events;
   rounds = h.rounds ++ Event.Turn ev ∷ [];
   between = h.between;
   follows = λ more r. subst (λ (z : List Event). Follows first_surroundings (begins script) script h.events z) (sym (append_assoc h.rounds (Event.Turn ev ∷ []) more))
-      (h.follows (Event.Turn ev ∷ more) (Rounds.round used is k r));
+      (h.follows (Event.Turn ev ∷ more) (Rounds.round is k r));
   lines' = h.lines';
   traces = traces-more h.between h.rounds w new out (Event.Turn ev) h.traces k over;
 }

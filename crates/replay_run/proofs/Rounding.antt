@@ -10,8 +10,8 @@ use Rattle.socks_machine.specs.declared.record.Record.{Record}
 use Rattle.socks_machine.specs.declared.script.ScriptLine.{ScriptLine}
 use Rattle.socks_machine.specs.declared.world.Event.{Event}
 use Rattle.socks_machine.specs.declared.world.World.{World}
-use Rattle.socks_machine.specs.Follows.{IsReplay, used_up}
-use Rattle.socks_machine.specs.Script.{Surroundings, going, going_from, is_still, next_in_round}
+use Rattle.socks_machine.specs.Follows.{IsReplay}
+use Rattle.socks_machine.specs.Script.{Surroundings, going, going_from, is_still, next_in_round, used_up}
 use Rattle.socks_machine.specs.Step.{basis_of}
 use Rattle.socks_machine.specs.Transcript.{event_line, ends}
 use Rattle.assoc_core.specs.declared.assoc.Assoc.{Assoc}
@@ -117,15 +117,15 @@ behind-going : (users : List User) (script : List ScriptLine) (k : ℕ) (still q
     → (h : IsInRound users script k still old) → slice_get old.slots k ≡ Some (Slot.Going a net) → IsTurned users h.s h.w k old new quiet
     → IsInRound users script (suc k) (still && quiet) new
 behind-going users script k still quiet old new a net h at t = record {
-  s = used_up h.s t.ev t.failed;
+  s = used_up h.s t.ev;
   w = t.world;
   lines_out = h.lines_out;
   out = h.out ++ event_line t.world (Event.Turn t.ev);
-  rounds = subst (λ (b : Bool). At script (used_up h.s t.ev t.failed) t.world (next_in_round (coming t.world (suc k)) (still && b) (Some t.world)) h.lines_out (h.out ++ event_line t.world (Event.Turn t.ev)))
+  rounds = subst (λ (b : Bool). At script (used_up h.s t.ev) t.world (next_in_round (coming t.world (suc k)) (still && b) (Some t.world)) h.lines_out (h.out ++ event_line t.world (Event.Turn t.ev)))
       (sym t.still')
-      (subst (λ (rs : List Record). At script (used_up h.s t.ev t.failed) t.world (next_in_round (going_from (suc (suc k)) rs) (still && is_still t.ev) (Some t.world)) h.lines_out (h.out ++ event_line t.world (Event.Turn t.ev)))
+      (subst (λ (rs : List Record). At script (used_up h.s t.ev) t.world (next_in_round (going_from (suc (suc k)) rs) (still && is_still t.ev) (Some t.world)) h.lines_out (h.out ++ event_line t.world (Event.Turn t.ev)))
       (sym (same-behind (t.world).records (h.w).records k t.others))
-      (round-goes-on script h.s h.w t.world (suc k) (coming h.w (suc k)) still h.lines_out h.out t.ev t.failed taken t.is_turn t.stepped t.over));
+      (round-goes-on script h.s h.w t.world (suc k) (coming h.w (suc k)) still h.lines_out h.out t.ev taken t.is_turn t.stepped t.over));
   written = t.out ∙ (ap (λ (z : List ℕ). z ++ turn_shown (old.gens).seen t.ev t.left) h.written
       ∙ (append_assoc (h.lines_out ++ close_shown) h.out (turn_shown (old.gens).seen t.ev t.left)
       ∙ ap (λ (z : List ℕ). (h.lines_out ++ close_shown) ++ (h.out ++ z)) (sym t.line)));

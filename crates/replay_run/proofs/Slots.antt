@@ -5,8 +5,7 @@ use Rattle.socks_machine.specs.declared.world.TurnEvent.{TurnEvent}
 use Rattle.socks_machine.specs.Basis.{Basis}
 use Rattle.socks_grammar.specs.declared.user.User.{User}
 use Rattle.generation.specs.Published.{Generations}
-use Rattle.socks_machine.specs.Follows.{Failing, used_up, is_used}
-use Rattle.socks_machine.specs.Script.{Outside, Surroundings, change, change_at}
+use Rattle.socks_machine.specs.Script.{Outside, Surroundings, change, change_at, is_among, used_up}
 use Rattle.replay_run.specs.declared.slot.Slot.{Slot}
 use Rattle.replay_script.specs.declared.state.AssociationState.{AssociationState}
 use Rattle.replay_script.specs.declared.state.State.{State}
@@ -70,34 +69,34 @@ slots-more basis number [] (o' ∷ os) slot o h is = absurd h
 slots-more basis number (s ∷ ss) [] slot o h is = absurd h
 slots-more basis number (s ∷ ss) (o' ∷ os) slot o h is = (h.0, slots-more basis (suc number) ss os slot o h.1 (subst (λ (n : ℕ). IsSlot basis n slot o) (omega arith) is))
 
--- what is left outside behind a turn in which these calls failed
-abbrev pub after_turn : TurnEvent → List Failing → Outside → Outside
-after_turn ev failed o = record o { faults = filter (λ f. not (is_used failed f)) o.faults; peer = (if is_some ev.came then None else o.peer) }
+-- what is left outside behind a turn
+abbrev pub after_turn : TurnEvent → Outside → Outside
+after_turn ev o = record o { faults = filter (λ f. not (is_among ev.failed f)) o.faults; peer = (if is_some ev.came then None else o.peer) }
 
-pub used-at : (s : Surroundings) (ev : TurnEvent) (failed : List Failing) (k : ℕ) (o : Outside) → ev.number ≡ suc k → slice_get s.outsides k ≡ Some o
-    → used_up s ev failed ≡ record s { outsides = slice_set s.outsides k (after_turn ev failed o) }
-used-at s ev failed k o number at = ap (λ n. change s n (after_turn ev failed)) number ∙ ap (change_at s (suc k) (after_turn ev failed)) at
+pub used-at : (s : Surroundings) (ev : TurnEvent) (k : ℕ) (o : Outside) → ev.number ≡ suc k → slice_get s.outsides k ≡ Some o
+    → used_up s ev ≡ record s { outsides = slice_set s.outsides k (after_turn ev o) }
+used-at s ev k o number at = ap (λ n. change s n (after_turn ev)) number ∙ ap (change_at s (suc k) (after_turn ev)) at
 
 same-some : {A : Type 0} (a b : A) → Some a ≡ Some b → a ≡ b
 same-some a b h = cc
 
 -- what the reader keeps of the associations is still what is outside
-sides-kept : (ev : TurnEvent) (failed : List Failing) (sides : List AssociationState) (os : List Outside) (k : ℕ) (o : Outside) → slice_get os k ≡ Some o → AreSides sides os
-    → AreSides sides (slice_set os k (after_turn ev failed o))
-sides-kept ev failed [] [] k o at h = tt
-sides-kept ev failed [] (x ∷ os) k o at h = absurd h
-sides-kept ev failed (y ∷ ys) [] k o at h = absurd h
-sides-kept ev failed (y ∷ ys) (x ∷ os) zero o at h = let e = same-some x o at in
+sides-kept : (ev : TurnEvent) (sides : List AssociationState) (os : List Outside) (k : ℕ) (o : Outside) → slice_get os k ≡ Some o → AreSides sides os
+    → AreSides sides (slice_set os k (after_turn ev o))
+sides-kept ev [] [] k o at h = tt
+sides-kept ev [] (x ∷ os) k o at h = absurd h
+sides-kept ev (y ∷ ys) [] k o at h = absurd h
+sides-kept ev (y ∷ ys) (x ∷ os) zero o at h = let e = same-some x o at in
     (h.0 ∙ ap (λ (z : Outside). z.c) e, h.1 ∙ ap (λ (z : Outside). z.end_c) e, h.2 ∙ ap (λ (z : Outside). z.end_t) e, h.3)
-sides-kept ev failed (y ∷ ys) (x ∷ os) (suc k) o at h = (h.0, h.1, h.2, sides-kept ev failed ys os k o at h.3)
+sides-kept ev (y ∷ ys) (x ∷ os) (suc k) o at h = (h.0, h.1, h.2, sides-kept ev ys os k o at h.3)
 
-sides-used : (s : Surroundings) (ev : TurnEvent) (failed : List Failing) (sides : List AssociationState) (n : ℕ) → AreSides sides s.outsides → AreSides sides (change s n (after_turn ev failed)).outsides
-sides-used s ev failed sides zero h = h
-sides-used s ev failed sides (suc k) h = by (slice_get s.outsides k) refl
+sides-used : (s : Surroundings) (ev : TurnEvent) (sides : List AssociationState) (n : ℕ) → AreSides sides s.outsides → AreSides sides (change s n (after_turn ev)).outsides
+sides-used s ev sides zero h = h
+sides-used s ev sides (suc k) h = by (slice_get s.outsides k) refl
   where
-    by : (x : Option Outside) → slice_get s.outsides k ≡ x → AreSides sides (change_at s (suc k) (after_turn ev failed) x).outsides
+    by : (x : Option Outside) → slice_get s.outsides k ≡ x → AreSides sides (change_at s (suc k) (after_turn ev) x).outsides
     by None at = h
-    by (Some o) at = sides-kept ev failed sides s.outsides k o at h
+    by (Some o) at = sides-kept ev sides s.outsides k o at h
 
 same-moment : (s : Surroundings) (n : ℕ) (f : Outside → Outside) → (change s n f).now ≡ s.now
 same-moment s zero f = refl
@@ -108,13 +107,13 @@ same-moment s (suc k) f = by (slice_get s.outsides k)
     by (Some o) = refl
 
 -- the reader's state is still what was played
-pub matches-used : (users : List User) (state : State) (s : Surroundings) (gens : Generations) (ev : TurnEvent) (failed : List Failing) → Matches users state s gens
-    → Matches users state (used_up s ev failed) gens
-matches-used users state s gens ev failed h = record {
+pub matches-used : (users : List User) (state : State) (s : Surroundings) (gens : Generations) (ev : TurnEvent) → Matches users state s gens
+    → Matches users state (used_up s ev) gens
+matches-used users state s gens ev h = record {
   users' = h.users';
   published' = h.published';
   seen' = h.seen';
-  moment = h.moment ∙ sym (same-moment s ev.number (after_turn ev failed));
-  sides = sides-used s ev failed state.sides ev.number h.sides;
+  moment = h.moment ∙ sym (same-moment s ev.number (after_turn ev));
+  sides = sides-used s ev state.sides ev.number h.sides;
   plain = h.plain;
 }

@@ -8,8 +8,7 @@ use Rattle.socks_machine.specs.declared.script.ScriptLine.{ScriptLine}
 use Rattle.socks_machine.specs.declared.world.Event.{Event}
 use Rattle.socks_machine.specs.declared.world.World.{World}
 use Rattle.socks_machine.specs.Basis.{Basis}
-use Rattle.socks_machine.specs.Follows.{used_up}
-use Rattle.socks_machine.specs.Script.{Outside, is_over, is_silent}
+use Rattle.socks_machine.specs.Script.{Outside, is_over, is_silent, used_up}
 use Rattle.socks_machine.specs.Step.{basis_of}
 use Rattle.replay_script.specs.declared.state.AssociationState.{AssociationState}
 use Rattle.replay_script.specs.declared.state.State.{State}
@@ -51,13 +50,13 @@ happens : (users : List User) (script lines : List ScriptLine) (state : State) (
     → (b : IsBehind users script lines state old) → is_silent b.w (ScriptLine.Turn 1 (suc k)) ≡ false → IsTurned users b.s b.w k old new still
     → IsBehind users script (lines ++ ScriptLine.Turn 1 (suc k) ∷ []) state new
 happens users script lines state old new still k b loud t = record {
-  s = used_up b.s t.ev t.failed;
+  s = used_up b.s t.ev;
   w = t.world;
-  played = subst (λ (out : List ℕ). Played script (lines ++ ScriptLine.Turn 1 (suc k) ∷ []) (used_up b.s t.ev t.failed) t.world out)
+  played = subst (λ (out : List ℕ). Played script (lines ++ ScriptLine.Turn 1 (suc k) ∷ []) (used_up b.s t.ev) t.world out)
       (ap (λ (z : List ℕ). old.out ++ z) t.line ∙ sym t.out)
-      (plays-event script lines b.s b.w t.world old.out (ScriptLine.Turn 1 (suc k)) (Event.Turn t.ev) t.failed b.played loud (t.ev, refl, t.is_turn) t.stepped t.over);
+      (plays-event script lines b.s b.w t.world old.out (ScriptLine.Turn 1 (suc k)) (Event.Turn t.ev) b.played loud (t.ev, refl, t.is_turn) t.stepped t.over);
   mirrors = t.mirrors;
-  matches = subst (λ (gens : Generations). Matches users state (used_up b.s t.ev t.failed) gens) (sym t.gens) (matches-used users state b.s old.gens t.ev t.failed b.matches);
+  matches = subst (λ (gens : Generations). Matches users state (used_up b.s t.ev) gens) (sym t.gens) (matches-used users state b.s old.gens t.ev b.matches);
 }
 
 rests : (users : List User) (script lines : List ScriptLine) (state : State) (old : Replay) (number : ℕ)

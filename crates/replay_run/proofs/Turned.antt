@@ -19,13 +19,15 @@ use Rattle.socks_machine.specs.declared.world.TurnEvent.{TurnEvent}
 use Rattle.socks_machine.specs.declared.world.World.{World}
 use Rattle.socks_machine.specs.Calls.{TurnResult}
 use Rattle.socks_machine.specs.History.{last_mark}
-use Rattle.socks_machine.specs.Script.{Outside, Surroundings}
+use Rattle.socks_machine.specs.FailedCalls.{Failing}
+use Rattle.socks_machine.specs.Script.{Outside, Surroundings, is_among, used_up}
 use Rattle.socks_machine.specs.Step.{basis_of, step, made, context_of, set_numbered}
 use Rattle.socks_machine.specs.Taking.{◌>>=◌}
 use Rattle.socks_machine.specs.Turn.{turn}
 use Rattle.assoc_core.specs.declared.assoc.Assoc.{Assoc}
 use Rattle.assoc_core.specs.declared.assoc.Next.{Next}
-use Rattle.assoc_core.specs.Turns.{Turns, event_of, mark_of, left_of, context}
+use Rattle.assoc_core.specs.Turns.{FailsWhere, Turns, event_of, mark_of, left_of, context}
+use Rattle.socks_machine.proofs.FailedLaws.{turn-with-failed}
 use Rattle.replay_run.specs.declared.slot.Slot.{Slot}
 use Rattle.addr_pattern.specs.declared.endpoint.Endpoint.{Endpoint}
 use Rattle.net_ends.specs.Nets.{NetTold, Plan}
@@ -39,26 +41,26 @@ use Rattle.assoc_core.specs.Turns.{PlanStays, SameTarget, TriedTarget, looked_as
 use Rattle.replay_run.specs.Mirrors.{FailsAs, Mirrors, IsGoing, IsSlot, TargetIs, TargetMirrors, due_on, record_of, seen_by_workers, takes_nothing}
 use Rattle.replay_run.specs.Taken.{slot_of}
 use Rattle.replay_run.proofs.Outsides.{same-arrived, same-ends, same-cap, same-target-is, target-behind}
-use Rattle.socks_machine.specs.Follows.{Failing, IsTurnOf, used_up}
+use Rattle.socks_machine.specs.Follows.{IsTurnOf}
 use Rattle.socks_machine.specs.Transcript.{event_line, turn_line}
 use Rattle.replay_run.proofs.Allowing.{allows}
 use Rattle.replay_run.proofs.Due.{due-left-c, due-left-t, failed_calls}
-use Rattle.replay_run.proofs.Failures.{Tries, failed_in}
+use Rattle.replay_run.proofs.Failures.{Tries, event_with, failed_in}
 use Rattle.replay_run.proofs.Slots.{after_turn, map-set-at, get-map-at, get-set-at, slot-at, slots-set, used-at}
 
 -- a turn is made in the generation that was seen, on the record of its number
 turn-steps : (w : World) (gens : Generations) (config : Entries) (a : Assoc LinkInMemory) (slots : List Slot) (net net' : NetInMemory) (next : Next LinkInMemory) (stands' : List Line → List StopBy → Type 0) (k now : ℕ)
     → numbered w.pubs gens.seen ≡ Some config → w.seen ≡ seen_by_workers gens.seen → w.records ≡ map record_of slots → slice_get slots k ≡ Some (Slot.Going a net) → a.state.number ≡ suc k
     → (t : Turns told_of_link (λ (l : LinkInMemory). l.counts) stands' (context w.users w.pubs gens.seen config w.cap w.h w.marks) now (told_of_net net) (told_of_net net') a next)
-    → step w (Event.Turn (event_of 1 a.state.number now t.acts (mark_of next))) ≡ Some (made w a.state.number t.result)
-turn-steps w gens config a slots net net' next stands' k now pubs seen records at number t =
+    → (failed : List Failing) → step w (Event.Turn (event_with 1 a.state.number now t.acts (mark_of next) failed)) ≡ Some (made w a.state.number t.result)
+turn-steps w gens config a slots net net' next stands' k now pubs seen records at number t failed =
     ap (λ (x : Option ℕ). x >>= λ g. numbered w.pubs g >>= λ c. numbered w.records a.state.number >>= λ r. turn (context_of w g c) ev r >>= λ m. Some (made w a.state.number m)) (ap (λ (z : List ℕ). slice_get z 1) seen)
     ∙ (ap (λ (x : Option Entries). x >>= λ c. numbered w.records a.state.number >>= λ r. turn (context_of w gens.seen c) ev r >>= λ m. Some (made w a.state.number m)) pubs
     ∙ (ap (λ (x : Option Record). x >>= λ r. turn (context_of w gens.seen config) ev r >>= λ m. Some (made w a.state.number m)) found
-    ∙ ap (λ (x : Option TurnResult). x >>= λ m. Some (made w a.state.number m)) (t.lawful 1)))
+    ∙ ap (λ (x : Option TurnResult). x >>= λ m. Some (made w a.state.number m)) (turn-with-failed (context_of w gens.seen config) (event_of 1 a.state.number now t.acts (mark_of next)) failed a.state ∙ t.lawful 1)))
   where
     ev : TurnEvent
-    ev = event_of 1 a.state.number now t.acts (mark_of next)
+    ev = event_with 1 a.state.number now t.acts (mark_of next) failed
 
     found : numbered w.records a.state.number ≡ Some a.state
     found = ap (numbered w.records) number ∙ (ap (λ (z : List Record). slice_get z k) records ∙ get-map-at record_of slots k (Slot.Going a net) at)
@@ -73,21 +75,28 @@ numbered-set w k r old n number at = subst (λ (m : ℕ). numbered (made w m r).
 
 -- ---- the association still stands beside its outside
 
-left-is : (ev : TurnEvent) (failed : List Failing) (l : LinkInMemory) (o : Outside) → TargetIs l o → TargetIs l (after_turn ev failed o)
-left-is ev failed l o h = record { arrived = h.arrived; ends = h.ends; cap = h.cap; room = h.room }
+left-is : (ev : TurnEvent) (l : LinkInMemory) (o : Outside) → TargetIs l o → TargetIs l (after_turn ev o)
+left-is ev l o h = record { arrived = h.arrived; ends = h.ends; cap = h.cap; room = h.room }
 
-plan-same : (net net' : NetInMemory) (o : Outside) (ev : TurnEvent) (c f : Option Kind) → TargetIs net.link o × FailsAs net.link Object.Target o × (outer_of net.outcome ≡ o.dial) → f ≡ None
+-- what is left of the calls that are to fail
+left-c : (ev : TurnEvent) (c t : Option Kind) (o : Outside) → ev.failed ≡ failed_calls c t → due_on Object.Client (after_turn ev o).faults ≡ without (due_on Object.Client o.faults) c
+left-c ev c t o is = ap (λ (fs : List Failing). due_on Object.Client (filter (λ f. not (is_among fs f)) o.faults)) is ∙ due-left-c c t o.faults
+
+left-t : (ev : TurnEvent) (c t : Option Kind) (o : Outside) → ev.failed ≡ failed_calls c t → due_on Object.Target (after_turn ev o).faults ≡ without (due_on Object.Target o.faults) t
+left-t ev c t o is = ap (λ (fs : List Failing). due_on Object.Target (filter (λ f. not (is_among fs f)) o.faults)) is ∙ due-left-t c t o.faults
+
+plan-same : (net net' : NetInMemory) (o : Outside) (ev : TurnEvent) (c f : Option Kind) → ev.failed ≡ failed_calls c f → TargetIs net.link o × FailsAs net.link Object.Target o × (outer_of net.outcome ≡ o.dial) → f ≡ None
     → (told_of_net net').plan ≡ (told_of_net net).plan
-    → TargetMirrors None net' (after_turn ev (failed_calls c f) o)
-plan-same net net' o ev c f h none same = (
-  left-is ev (failed_calls c f) net'.link o (same-target-is net.link net'.link o h.0 (record {
+    → TargetMirrors None net' (after_turn ev o)
+plan-same net net' o ev c f is h none same = (
+  left-is ev net'.link o (same-target-is net.link net'.link o h.0 (record {
     arrived = ap (λ (p : Option Plan). elim p [ Some x ↦ x.link.arrived | None ↦ None ]) same;
     cap = ap (λ (p : Option Plan). elim p [ Some x ↦ x.link.cap | None ↦ None ]) same;
     room = ap (λ (p : Option Plan). elim p [ Some x ↦ x.link.room | None ↦ None ]) same;
     unfailing = ap (λ (p : Option Plan). elim p [ Some x ↦ x.link.unfailing | None ↦ false ]) same;
   })),
   ap (λ (p : Option Plan). elim p [ Some x ↦ x.due | None ↦ None ]) same
-      ∙ (h.1 ∙ ap (λ (due : Kinds). Some due) (sym (due-left-t c f o.faults ∙ ap (without (due_on Object.Target o.faults)) none))),
+      ∙ (h.1 ∙ ap (λ (due : Kinds). Some due) (sym (left-t ev c f o is ∙ ap (without (due_on Object.Target o.faults)) none))),
   ap (λ (p : Option Plan). elim p [ Some x ↦ outer_of x.outcome | None ↦ o.dial ]) same ∙ h.2,
 )
 
@@ -102,27 +111,27 @@ plan-stays net net' Outer.HostUnreachable there none h = h
 plan-stays net net' Outer.NetUnreachable there none h = h
 plan-stays net net' Outer.Failed there none h = h
 
-target-still : (R W S : Type 0) (t t' : Option LinkInMemory) (net net' : NetInMemory) (o : Outside) (r : Record) (outer : Outer) (ev : TurnEvent) (c f : Option Kind) → TargetMirrors t net o
+target-still : (R W S : Type 0) (t t' : Option LinkInMemory) (net net' : NetInMemory) (o : Outside) (r : Record) (outer : Outer) (ev : TurnEvent) (c f : Option Kind) → ev.failed ≡ failed_calls c f → TargetMirrors t net o
     → SameTarget told_of_link (told_of_net net) t t' → TriedTarget (λ (l : LinkInMemory). l.counts) (told_of_net net) t t' R W S f
-    → HoldsTarget told_of_link r t' → PlanStays (told_of_net net) (told_of_net net') outer (is_some (reached_at r.decisions)) → TargetMirrors t' net' (after_turn ev (failed_calls c f) o)
-target-still R W S None None net net' o r outer ev c f h same tried holds plan =
-    plan-same net net' o ev c f h tried.0 (plan-stays (told_of_net net) (told_of_net net') outer (is_some (reached_at r.decisions)) (ap (λ (x : Option Endpoint). is_some x) holds.0) plan)
-target-still R W S (Some l) None net net' o r outer ev c f h same tried holds plan = absurd same
-target-still R W S None (Some l') net net' o r outer ev c f h same tried holds plan = (
-  left-is ev (failed_calls c f) l' o (target-behind None net o l' h same),
+    → HoldsTarget told_of_link r t' → PlanStays (told_of_net net) (told_of_net net') outer (is_some (reached_at r.decisions)) → TargetMirrors t' net' (after_turn ev o)
+target-still R W S None None net net' o r outer ev c f is h same tried holds plan =
+    plan-same net net' o ev c f is h tried.0 (plan-stays (told_of_net net) (told_of_net net') outer (is_some (reached_at r.decisions)) (ap (λ (x : Option Endpoint). is_some x) holds.0) plan)
+target-still R W S (Some l) None net net' o r outer ev c f is h same tried holds plan = absurd same
+target-still R W S None (Some l') net net' o r outer ev c f is h same tried holds plan = (
+  left-is ev l' o (target-behind None net o l' h same),
   tried.2.left (due_on Object.Target o.faults) (tried.1 (record { outcome = net.outcome; link = told_of_link net.link; due = net.link.counts.due }) refl ∙ h.1)
-      ∙ ap (λ (due : Kinds). Some due) (sym (due-left-t c f o.faults)),
+      ∙ ap (λ (due : Kinds). Some due) (sym (left-t ev c f o is)),
 )
-target-still R W S (Some l) (Some l') net net' o r outer ev c f h same tried holds plan = (
-  left-is ev (failed_calls c f) l' o (target-behind (Some l) net o l' h same),
-  tried.left (due_on Object.Target o.faults) h.1 ∙ ap (λ (due : Kinds). Some due) (sym (due-left-t c f o.faults)),
+target-still R W S (Some l) (Some l') net net' o r outer ev c f is h same tried holds plan = (
+  left-is ev l' o (target-behind (Some l) net o l' h same),
+  tried.left (due_on Object.Target o.faults) h.1 ∙ ap (λ (due : Kinds). Some due) (sym (left-t ev c f o is)),
 )
 
 -- an association that goes on
 still-going : (basis : Basis) (n : ℕ) (a a' : Assoc LinkInMemory) (net net' : NetInMemory) (o : Outside) (next : Next LinkInMemory) (s : Context) (stands' : List Line → List StopBy → Type 0) (now : ℕ)
     → IsGoing basis n a net o → s.basis ≡ basis → (t : Turns told_of_link (λ (l : LinkInMemory). l.counts) stands' s now (told_of_net net) (told_of_net net') a next) → left_of next ≡ a'
-    → IsPlainRecord (s.basis).users a'.state → (ev : TurnEvent) → ev.came ≡ None → (tries : Tries net a (left_of next) t.acts) → IsGoing basis n a' net' (after_turn ev (failed_in tries) o)
-still-going basis n a a' net net' o next s stands' now h over t is plain ev came tries = subst (λ (z : Assoc LinkInMemory). IsGoing basis n z net' (after_turn ev (failed_in tries) o)) is (record {
+    → IsPlainRecord (s.basis).users a'.state → (ev : TurnEvent) → ev.came ≡ None → (tries : Tries net a (left_of next) t.acts) → ev.failed ≡ failed_in tries → IsGoing basis n a' net' (after_turn ev o)
+still-going basis n a a' net net' o next s stands' now h over t is plain ev came tries failed = subst (λ (z : Assoc LinkInMemory). IsGoing basis n z net' (after_turn ev o)) is (record {
   number' = ap (λ (r : Record). r.number) t.state' ∙ (t.number ∙ h.number');
   stands = record {
     plain = subst (λ (z : Assoc LinkInMemory). IsPlainRecord basis.users z.state) (sym is) (subst (λ (z : Basis). IsPlainRecord z.users a'.state) over plain);
@@ -134,33 +143,32 @@ still-going basis n a a' net net' o next s stands' now h over t is plain ev came
   };
   arrived = same-arrived a.client (left_of next).client t.same_client ∙ h.arrived;
   ends = same-ends a.client (left_of next).client t.same_client ∙ h.ends;
-  fails = tries.tried_c.left (due_on Object.Client o.faults) h.fails ∙ ap (λ (due : Kinds). Some due) (sym (due-left-c tries.failed_c tries.failed_t o.faults));
+  fails = tries.tried_c.left (due_on Object.Client o.faults) h.fails ∙ ap (λ (due : Kinds). Some due) (sym (left-c ev tries.failed_c tries.failed_t o failed));
   cap = subst (λ (m : ℕ). 64 + length o.t ≤ m) (sym (same-cap a.client (left_of next).client t.same_client)) h.cap;
   room = ap takes_nothing t.same_client.room ∙ h.room;
   served = h.served;
-  target = target-still _ _ _ a.target (left_of next).target net net' o t.result.left t.acts.outer ev tries.failed_c tries.failed_t h.target t.same_target tries.tried_t t.target t.plan';
+  target = target-still _ _ _ a.target (left_of next).target net net' o t.result.left t.acts.outer ev tries.failed_c tries.failed_t failed h.target t.same_target tries.tried_t t.target t.plan';
   lookup = ap (λ (p : Option Lookup). elim p [ Some x ↦ looked_as x | None ↦ o.lookup ]) t.lookup_plan ∙ h.lookup;
   quiet = record { grams = h.quiet.grams; peer = ap (λ (x : Option Endpoint). if is_some x then None else o.peer) came ∙ h.quiet.peer };
 })
 
 slot-still : (basis : Basis) (n : ℕ) (a : Assoc LinkInMemory) (net net' : NetInMemory) (o : Outside) (next : Next LinkInMemory) (s : Context) (stands' : List Line → List StopBy → Type 0) (now : ℕ)
     → IsGoing basis n a net o → s.basis ≡ basis → (t : Turns told_of_link (λ (l : LinkInMemory). l.counts) stands' s now (told_of_net net) (told_of_net net') a next)
-    → (ev : TurnEvent) → ev.came ≡ None → (tries : Tries net a (left_of next) t.acts) → IsSlot basis n (slot_of next net') (after_turn ev (failed_in tries) o)
-slot-still basis n a net net' o (Next.Wait a') s stands' now h over t ev came tries = still-going basis n a a' net net' o (Next.Wait a') s stands' now h over t refl t.goes_on ev came tries
-slot-still basis n a net net' o (Next.Again a') s stands' now h over t ev came tries = still-going basis n a a' net net' o (Next.Again a') s stands' now h over t refl t.goes_on ev came tries
-slot-still basis n a net net' o (Next.Done e) s stands' now h over t ev came tries = t.goes_on
+    → (ev : TurnEvent) → ev.came ≡ None → (tries : Tries net a (left_of next) t.acts) → ev.failed ≡ failed_in tries → IsSlot basis n (slot_of next net') (after_turn ev o)
+slot-still basis n a net net' o (Next.Wait a') s stands' now h over t ev came tries failed = still-going basis n a a' net net' o (Next.Wait a') s stands' now h over t refl t.goes_on ev came tries failed
+slot-still basis n a net net' o (Next.Again a') s stands' now h over t ev came tries failed = still-going basis n a a' net net' o (Next.Again a') s stands' now h over t refl t.goes_on ev came tries failed
+slot-still basis n a net net' o (Next.Done e) s stands' now h over t ev came tries failed = t.goes_on
 
 -- ---- the whole
 
--- the turn of the association at this place: its event with the calls that failed, the world behind it, and that the replay
+-- the turn of the association at this place: its event, the world behind it, and that the replay
 -- holds what that is
 pub record IsTurned (users : List User) (s : Surroundings) (w : World) (gens : Generations) (slots : List Slot) (k : ℕ) (ev : TurnEvent) (slot : Slot) (left : Record)
     (stands' : List Line → List StopBy → Type 0) (cap now : ℕ) : Type 0 where
   pub new : World
-  pub failed : List Failing
-  pub is_turn : IsTurnOf s w 1 (suc k) ev failed
+  pub is_turn : IsTurnOf s w 1 (suc k) ev
   pub stepped : step w (Event.Turn ev) ≡ Some new
-  pub mirrors : Mirrors users stands' cap now (used_up s ev failed) new gens (slice_set slots k slot)
+  pub mirrors : Mirrors users stands' cap now (used_up s ev) new gens (slice_set slots k slot)
   pub line' : event_line new (Event.Turn ev) ≡ turn_line gens.seen ev (Some left)
   pub others : (j : ℕ) → (j ≡ k → ⊥) → slice_get new.records j ≡ slice_get w.records j
 
@@ -175,11 +183,11 @@ pub turned : (users : List User) (s : Surroundings) (w : World) (gens : Generati
     (stands stands' : List Line → List StopBy → Type 0) (cap now : ℕ)
     → Mirrors users stands cap now s w gens slots → numbered gens.configs gens.seen ≡ Some config → slice_get slots k ≡ Some (Slot.Going a net)
     → (t : Turns told_of_link (λ (l : LinkInMemory). l.counts) stands' (context w.users w.pubs gens.seen config w.cap w.h w.marks) now (told_of_net net) (told_of_net net') a next)
-    → last_mark (t.result).marks ≡ None → Tries net a (left_of next) t.acts
-    → IsTurned users s w gens slots k (event_of 1 a.state.number now t.acts (mark_of next)) (slot_of next net') (t.result).left stands' cap now
-turned users s w gens config slots k a net net' next stands stands' cap now m is at t mark tries = record {
+    → last_mark (t.result).marks ≡ None → (tries : Tries net a (left_of next) t.acts)
+    → FailsWhere (basis_of w) t.behind (t.result).left Object.Client tries.failed_c → FailsWhere (basis_of w) t.behind (t.result).left Object.Target tries.failed_t
+    → IsTurned users s w gens slots k (event_with 1 a.state.number now t.acts (mark_of next) (failed_in tries)) (slot_of next net') (t.result).left stands' cap now
+turned users s w gens config slots k a net net' next stands stands' cap now m is at t mark tries where_c where_t = record {
   new = new;
-  failed = failed_in tries;
   is_turn = record {
     worker' = refl;
     number = number;
@@ -210,12 +218,14 @@ turned users s w gens config slots k a net net' next stands stands' cap now m is
       going = going;
       turns = t;
       tries = tries;
+      where_c = where_c;
+      where_t = where_t;
       stepped = stepped;
       behind' = behind;
     });
   };
   stepped = stepped;
-  mirrors = subst (λ (z : Surroundings). Mirrors users stands' cap now z new gens (slice_set slots k (slot_of next net'))) (sym (used-at s ev (failed_in tries) k o number found.1)) (record {
+  mirrors = subst (λ (z : Surroundings). Mirrors users stands' cap now z new gens (slice_set slots k (slot_of next net'))) (sym (used-at s ev k o number found.1)) (record {
     moment' = m.moment';
     users' = m.users';
     pubs = m.pubs;
@@ -225,8 +235,8 @@ turned users s w gens config slots k a net net' next stands stands' cap now m is
         ∙ (ap (λ (rs : List Record). slice_set rs k (t.result).left) m.records
         ∙ (ap (λ (r : Record). slice_set (map record_of slots) k r) (sym (slot-record next net' ∙ t.state'))
         ∙ sym (map-set-at record_of slots k (slot_of next net'))));
-    slots' = slots-set (basis_of w) 1 slots s.outsides k (slot_of next net') (after_turn ev (failed_in tries) o) m.slots'
-        (slot-still (basis_of w) (1 + k) a net net' o next _ stands' now found.2 refl t ev refl tries);
+    slots' = slots-set (basis_of w) 1 slots s.outsides k (slot_of next net') (after_turn ev o) m.slots'
+        (slot-still (basis_of w) (1 + k) a net net' o next _ stands' now found.2 refl t ev refl tries refl);
     desk = t.desk;
     cap' = m.cap';
     marks = mark;
@@ -237,7 +247,7 @@ turned users s w gens config slots k a net net' next stands stands' cap now m is
 }
   where
     ev : TurnEvent
-    ev = event_of 1 a.state.number now t.acts (mark_of next)
+    ev = event_with 1 a.state.number now t.acts (mark_of next) (failed_in tries)
 
     new : World
     new = made w a.state.number t.result
@@ -267,7 +277,7 @@ turned users s w gens config slots k a net net' next stands stands' cap now m is
     stood = stood'
 
     stepped : step w (Event.Turn ev) ≡ Some new
-    stepped = turn-steps w gens config a slots net net' next stands' k now shown m.seen' m.records at number t
+    stepped = turn-steps w gens config a slots net net' next stands' k now shown m.seen' m.records at number t (failed_in tries)
 
     behind : numbered new.records a.state.number ≡ Some (t.result).left
     behind = numbered-set w k t.result a.state a.state.number number stood'

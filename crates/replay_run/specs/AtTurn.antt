@@ -6,8 +6,8 @@ use Rattle.socks_machine.specs.declared.record.Record.{Record}
 use Rattle.socks_machine.specs.declared.world.Event.{Event}
 use Rattle.socks_machine.specs.declared.world.TurnEvent.{TurnEvent}
 use Rattle.socks_machine.specs.declared.world.World.{World}
-use Rattle.socks_machine.specs.Follows.{Failing, IsTurnOf, used_up}
-use Rattle.socks_machine.specs.Script.{Surroundings, is_still}
+use Rattle.socks_machine.specs.Follows.{IsTurnOf}
+use Rattle.socks_machine.specs.Script.{Surroundings, is_still, used_up}
 use Rattle.socks_machine.specs.Step.{step}
 use Rattle.socks_machine.specs.Transcript.{event_line}
 use Rattle.replay_run.specs.declared.slot.Slot.{Slot}
@@ -17,17 +17,16 @@ use Rattle.replay_run.specs.Played.{is_over}
 use Rattle.replay_run.specs.Shown.{turn_shown}
 use Rattle.std.specs.Prelude.{suc, slice_get}
 
--- the turn of the association at this place: its event with the calls that failed, the world behind it, and that the replay
+-- the turn of the association at this place: its event, the world behind it, and that the replay
 -- holds what that is
 pub record IsTurned (users : List User) (s : Surroundings) (w : World) (k : ℕ) (old new : Replay) (still : Bool) : Type 0 where
   pub ev : TurnEvent
   pub left : Record
   pub world : World
-  pub failed : List Failing
-  pub is_turn : IsTurnOf s w 1 (suc k) ev failed
+  pub is_turn : IsTurnOf s w 1 (suc k) ev
   pub stepped : step w (Event.Turn ev) ≡ Some world
   pub over : is_over (Event.Turn ev) ≡ true
-  pub mirrors : Mirrors users (StandsFor new.desk) new.desk.cap new.moment (used_up s ev failed) world new.gens new.slots
+  pub mirrors : Mirrors users (StandsFor new.desk) new.desk.cap new.moment (used_up s ev) world new.gens new.slots
   pub still' : still ≡ is_still ev
   pub line : event_line world (Event.Turn ev) ≡ turn_shown old.gens.seen ev left
   pub out : new.out ≡ old.out ++ turn_shown old.gens.seen ev left

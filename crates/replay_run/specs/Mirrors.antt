@@ -19,7 +19,7 @@ use Rattle.socks_machine.specs.History.{last_mark}
 use Rattle.socks_machine.specs.Inputs.{is_served_input}
 use Rattle.socks_machine.specs.Phase.{is_udp}
 use Rattle.socks_machine.specs.declared.script.CallKind.{CallKind}
-use Rattle.socks_machine.specs.Follows.{Failing}
+use Rattle.socks_machine.specs.FailedCalls.{Failing}
 use Rattle.socks_machine.specs.Script.{Outside, Surroundings, is_fault}
 use Rattle.socks_machine.specs.Step.{basis_of, fresh}
 use Rattle.socks_machine.specs.Taking.{holds}

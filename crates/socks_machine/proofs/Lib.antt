@@ -1,6 +1,7 @@
 pub mod ActLaws
 pub mod CallLaws
 pub mod DatagramLaws
+pub mod FailedLaws
 pub mod FollowLaws
 pub mod LaterLaws
 pub mod MemoryLaws
