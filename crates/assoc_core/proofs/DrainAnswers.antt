@@ -291,7 +291,7 @@ held-sent told old sent_c (Some link) h = (h.0, subst (λ (s : List ℕ). Holds 
 
 same-link : {L : Type 0} (told : L → Told) (net : NetTold) (target : Option L) → SameTarget told net target target
 same-link told net None = tt
-same-link told net (Some link) = record { arrived = refl; cap = refl; room = refl; unfailing = refl }
+same-link told net (Some link) = record { arrived = refl; cap = refl; room = refl; unfailing = refl; tells_given = refl; tells_taken = refl }
 
 -- the client's write failed, and nothing was sent to the target
 pub client-failed : {L : Type 0} (told : L → Told) (counts : L → Counts) (stands : List Line → List StopBy → Type 0)

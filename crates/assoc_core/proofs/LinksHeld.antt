@@ -1,5 +1,5 @@
 -- What links hold behind reads and writes.
-use Rattle.std.proofs.Common.{◌≡◌, ◌<◌, ℕ, Bool, ◌||◌, Option, Some, None, List, ◌++◌, length, refl, ap, sym, subst, ◌∙◌, arith, length-append}
+use Rattle.std.proofs.Common.{◌≡◌, ◌<◌, ℕ, Bool, ◌||◌, Option, Some, None, List, ◌++◌, length, refl, ap, sym, subst, ◌∙◌, arith, length-append, is_some}
 use Rattle.net_ends.specs.Counts.{Counts}
 use Rattle.net_ends.specs.Told.{Told, more}
 use Rattle.assoc_core.specs.declared.carry.Give.{Give}
@@ -53,14 +53,19 @@ idle-given k h = subst IsIdle (sym k.told') h
 pub full-taken : {old new : Told} {counts counts' : Counts} {before after : List ℕ} {reads was ended : Bool} {take : Take} → TakesPart old new counts counts' before after reads was ended take → IsFull old → IsFull new
 full-taken k h = subst IsFull (sym k.told') h
 
+-- what was told before is told, and nothing else
+pub more-tells : (told : Option (List ℕ)) (part : List ℕ) → is_some (more told part) ≡ is_some told
+more-tells None part = refl
+more-tells (Some bytes) part = refl
+
 pub outside-given : {old new : Told} {counts counts' : Counts} {before after pending : List ℕ} {gives ends was shut : Bool} {give : Give} → GivesPart old new counts counts' before after pending gives ends was shut give → SameOutside old new
-outside-given k = record { arrived = ap (λ (z : Told). z.arrived) k.told'; cap = ap (λ (z : Told). z.cap) k.told'; room = ap (λ (z : Told). z.room) k.told'; unfailing = ap (λ (z : Told). z.unfailing) k.told' }
+outside-given {old} k = record { tells_given = ap (λ (z : Told). is_some z.given) k.told'; tells_taken = ap (λ (z : Told). is_some z.taken) k.told' ∙ more-tells old.taken k.part; arrived = ap (λ (z : Told). z.arrived) k.told'; cap = ap (λ (z : Told). z.cap) k.told'; room = ap (λ (z : Told). z.room) k.told'; unfailing = ap (λ (z : Told). z.unfailing) k.told' }
 
 pub outside-taken : {old new : Told} {counts counts' : Counts} {before after : List ℕ} {reads was ended : Bool} {take : Take} → TakesPart old new counts counts' before after reads was ended take → SameOutside old new
-outside-taken k = record { arrived = ap (λ (z : Told). z.arrived) k.told'; cap = ap (λ (z : Told). z.cap) k.told'; room = ap (λ (z : Told). z.room) k.told'; unfailing = ap (λ (z : Told). z.unfailing) k.told' }
+outside-taken {old} k = record { tells_given = ap (λ (z : Told). is_some z.given) k.told' ∙ more-tells old.given k.part; tells_taken = ap (λ (z : Told). is_some z.taken) k.told'; arrived = ap (λ (z : Told). z.arrived) k.told'; cap = ap (λ (z : Told). z.cap) k.told'; room = ap (λ (z : Told). z.room) k.told'; unfailing = ap (λ (z : Told). z.unfailing) k.told' }
 
 pub outside-on : {old mid new : Told} → SameOutside old mid → SameOutside mid new → SameOutside old new
-outside-on h k = record { arrived = k.arrived ∙ h.arrived; cap = k.cap ∙ h.cap; room = k.room ∙ h.room; unfailing = k.unfailing ∙ h.unfailing }
+outside-on h k = record { tells_given = k.tells_given ∙ h.tells_given; tells_taken = k.tells_taken ∙ h.tells_taken; arrived = k.arrived ∙ h.arrived; cap = k.cap ∙ h.cap; room = k.room ∙ h.room; unfailing = k.unfailing ∙ h.unfailing }
 
 -- fewer were sent than are owed
 pub short : (sent rest owed : List ℕ) → sent ++ rest ≡ owed → 0 < length rest → length sent < length owed

@@ -42,6 +42,7 @@ use Rattle.assoc_core.proofs.StandsLaws.{same-target}
 use Rattle.assoc_core.proofs.TalkTurns.{with_state}
 use Rattle.assoc_core.proofs.Tryings.{tried-none, tried-as, added-none, rose-new}
 use Rattle.assoc_core.proofs.Failable.{LeavesOf}
+use Rattle.assoc_core.proofs.LinksHeld.{more-tells}
 
 -- ---- from the turn with the explicit record
 
@@ -266,7 +267,7 @@ greets-turn {L = L} told counts users pubs generation config most h marks net ne
 
     same-link : (plan : Plan) → net.plan ≡ Some plan → SameOutside plan.link (told link)
     same-link plan e = subst (λ (t : Told). SameOutside plan.link t) (sym w.link')
-        (subst (λ (t : Told). SameOutside plan.link (told_taken t (z.state).sent_t)) (sym (v.planned plan e)) (record { arrived = refl; cap = refl; room = refl; unfailing = refl }))
+        (subst (λ (t : Told). SameOutside plan.link (told_taken t (z.state).sent_t)) (sym (v.planned plan e)) (record { arrived = refl; cap = refl; room = refl; unfailing = refl; tells_given = refl; tells_taken = more-tells (plan.link).taken (z.state).sent_t }))
 
     new-unfailing : (plan : Plan) × (net.plan ≡ Some plan) × ((plan.link).unfailing ≡ true) → (told new).unfailing ≡ true
     new-unfailing u = ap (λ (t : Told). t.unfailing) (v.planned u.0 u.1) ∙ u.2

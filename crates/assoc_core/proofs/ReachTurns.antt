@@ -42,6 +42,7 @@ use Rattle.assoc_core.proofs.Reaching.{Dialling, connecting, dialler, at-behind,
 use Rattle.assoc_core.proofs.TalkTurns.{with_state}
 use Rattle.assoc_core.proofs.Tryings.{tried-as, target-tried-as}
 use Rattle.assoc_core.proofs.Failable.{LeavesOf, left-over, where-written}
+use Rattle.assoc_core.proofs.LinksHeld.{more-tells}
 
 -- ---- what is owed
 
@@ -430,7 +431,7 @@ turns-reached told counts d net net' a z o y_c rest_c rest_t full_c full_t fault
   client_ends = subst EndsBehind (sym h.told') k.client_ends;
   client_first = subst GivesFirst (sym h.told') k.client_first;
   target = subst (λ (r : Record). HoldsTarget told r z.target) h.state' h.target';
-  same_client = subst (λ (w : Told). SameOutside (told a.client) w) (sym h.told') (record { arrived = refl; cap = refl; room = refl; unfailing = refl });
+  same_client = subst (λ (w : Told). SameOutside (told a.client) w) (sym h.told') (record { arrived = refl; cap = refl; room = refl; unfailing = refl; tells_given = refl; tells_taken = more-tells (told a.client).taken y_c });
   same_target = h.same_target;
   behind = before d;
   taken' = λ worker. refl;

@@ -51,7 +51,7 @@ target-same told r x (Some link) e h =
     ((h.0.0, e.at ∙ h.0.1), holds-same (told link) r.t r.sent_t x.t x.sent_t r.end_t r.shut_t x.end_t x.shut_t h.1 e.t e.sent_t e.end_t e.shut_t, h.2, h.3)
 
 pub same-outside : (told : Told) → SameOutside told told
-same-outside told = record { arrived = refl; cap = refl; room = refl; unfailing = refl }
+same-outside told = record { arrived = refl; cap = refl; room = refl; unfailing = refl; tells_given = refl; tells_taken = refl }
 
 pub same-target : {L : Type 0} (told : L → Told) (net : NetTold) (target : Option L) → SameTarget told net target target
 same-target told net None = tt

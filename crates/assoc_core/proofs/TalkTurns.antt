@@ -28,6 +28,7 @@ use Rattle.assoc_core.specs.Turns.{Turns, Acts, event_of, links, mark_of, left_o
 use Rattle.assoc_core.proofs.StandsLaws.{SameTargetSide, target-same, same-target}
 use Rattle.assoc_core.proofs.Tryings.{target-untried, tried-as}
 use Rattle.assoc_core.proofs.Talking.{Hearing, Speaking, basis_of, context_of, before, speaking, spoken_to, spoken_in, unspoken, spoken_takings}
+use Rattle.assoc_core.proofs.LinksHeld.{more-tells}
 
 -- ---- what its link tells
 
@@ -182,7 +183,7 @@ turns-called {L = L} told counts stands t now net net' a next y ends outer idle 
   client_ends = ends-heard (told (left_of next).client) ends (client'.ended' ∙ h.end_c') h.at_end;
   client_first = h.first;
   target = subst (λ (o : Option _). HoldsTarget told (h.result).left o) (sym h.target') (target-same told (unspoken t) (h.result).left a.target h.side k.target);
-  same_client = subst (λ (z : Told). SameOutside (told a.client) z) (sym h.told') (record { arrived = refl; cap = refl; room = refl; unfailing = refl });
+  same_client = subst (λ (z : Told). SameOutside (told a.client) z) (sym h.told') (record { arrived = refl; cap = refl; room = refl; unfailing = refl; tells_given = more-tells (told a.client).given t.x; tells_taken = more-tells (told a.client).taken y });
   same_target = subst (λ (o : Option _). SameTarget told net a.target o) (sym h.target') (same-target told net a.target);
   behind = h.behind;
   taken' = λ worker. takes-is (spoken_to t) t.generation (t.config).methods (speak_event t worker now acts' (mark_of next)) (unspoken t) h.behind h.takes;

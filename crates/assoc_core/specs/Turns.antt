@@ -107,12 +107,16 @@ GoesOn users (Next.Done e) = (e.state.done ≡ true) × (is_udp e.state ≡ fals
 
 -- ---- the outside
 
--- what no call changes
+-- What no call on a link changes: what is to arrive, how much it takes, and whether it can fail. And it goes on telling what it
+-- gave and took where it does, and doesn't begin to where it doesn't. (What it gave and took, and whether it ended or was shut,
+-- stands in the record: `Holds`.)
 pub record SameOutside (old new : Told) : Type 0 where
   pub arrived : new.arrived ≡ old.arrived
   pub cap : new.cap ≡ old.cap
   pub room : new.room ≡ old.room
   pub unfailing : new.unfailing ≡ old.unfailing
+  pub tells_given : is_some new.given ≡ is_some old.given
+  pub tells_taken : is_some new.taken ≡ is_some old.taken
 
 -- the target's link is the one that was there, or the one that the dial gave
 abbrev pub SameTarget : {L : Type 0} → (L → Told) → NetTold → Option L → Option L → Type 0

@@ -94,6 +94,8 @@ plan-same net net' o ev c f is h none same = (
     cap = ap (λ (p : Option Plan). elim p [ Some x ↦ x.link.cap | None ↦ None ]) same;
     room = ap (λ (p : Option Plan). elim p [ Some x ↦ x.link.room | None ↦ None ]) same;
     unfailing = ap (λ (p : Option Plan). elim p [ Some x ↦ x.link.unfailing | None ↦ false ]) same;
+    tells_given = ap (λ (p : Option Plan). elim p [ Some x ↦ is_some x.link.given | None ↦ false ]) same;
+    tells_taken = ap (λ (p : Option Plan). elim p [ Some x ↦ is_some x.link.taken | None ↦ false ]) same;
   })),
   ap (λ (p : Option Plan). elim p [ Some x ↦ x.due | None ↦ None ]) same
       ∙ (h.1 ∙ ap (λ (due : Kinds). Some due) (sym (left-t ev c f o is ∙ ap (without (due_on Object.Target o.faults)) none))),
