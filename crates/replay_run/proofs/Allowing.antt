@@ -45,7 +45,7 @@ use Rattle.assoc_core.specs.declared.assoc.Assoc.{Assoc}
 use Rattle.assoc_core.specs.declared.assoc.Next.{Next}
 use Rattle.assoc_core.specs.Plain.{owed_c, owed_t, prelude_of}
 use Rattle.assoc_core.specs.Stands.{HoldsTarget}
-use Rattle.assoc_core.specs.Turns.{Turns, FailsWhere, call_of, links, mark_of, left_of, context, IsOuterOf, IsFull, IsIdle, IsThereAnd, SameTarget, StopsReading, Filled, Unread, ReadsEnd, TakesNothing, outer_of, looked_as}
+use Rattle.assoc_core.specs.Turns.{Turns, FailsWhere, call_of, event_of, links, mark_of, left_of, context, IsOuterOf, IsFull, IsIdle, IsThereAnd, SameTarget, StopsReading, Filled, Unread, ReadsEnd, TakesNothing, outer_of, looked_as}
 use Rattle.replay_run.specs.Mirrors.{IsGoing, TargetIs, TargetMirrors, takes_nothing}
 use Rattle.replay_run.proofs.Failures.{Tries, done-not-failed, end-is-read, event_with, failed_in, faults-are}
 use Rattle.replay_run.proofs.Narrowing.{is-nothing, not-nothing}
@@ -117,6 +117,10 @@ pub record Turning : Type 1 where
 
 abbrev pub event : Turning → TurnEvent
 event k = event_with 1 k.a.state.number k.now k.turns.acts (mark_of k.next) (failed_in k.tries)
+
+-- .. without the list of the calls that failed, on which nothing that is taken rests
+abbrev unlisted : Turning → TurnEvent
+unlisted k = event_of 1 k.a.state.number k.now k.turns.acts (mark_of k.next)
 
 abbrev left : Turning → Record
 left k = (k.turns.result).left
@@ -289,7 +293,7 @@ same-behind : {A : Type 0} (x y : A) → Some x ≡ Some y → x ≡ y
 same-behind x y h = cc
 
 comes-if-read : (k : Turning) (arrived had part : List ℕ) (stands was read : Bool) (Passes : Type 0) (reads : Record → Phase → Bool) (waiting : Basis → Record → ℕ)
-    → Passes → (had ++ part ≡ arrived) × (stands ≡ true) → ReadsEnd (made-over k) k.a.state (left k) (event k) was part reads waiting
+    → Passes → (had ++ part ≡ arrived) × (stands ≡ true) → ReadsEnd (made-over k) k.a.state (left k) (unlisted k) was part reads waiting
     → Comes k arrived had part stands was Passes reads waiting
 comes-if-read k arrived had part stands was read Passes reads waiting passes told h = record {
   stands = told.1;
@@ -307,7 +311,7 @@ comes-if-read k arrived had part stands was read Passes reads waiting passes tol
 
 read-if-comes : (k : Turning) → k.turns.acts.fault ≡ None → (arrived had part : List ℕ) (stands was read idle : Bool) (Passes : Type 0) (reads : Record → Phase → Bool) (waiting : Basis → Record → ℕ)
     → (idle ≡ true → (had ++ part ≡ arrived) × (stands ≡ false))
-    → StopsReading was read idle part k.turns.acts.fault (Filled (made-over k) k.a.state (left k) (event k) waiting) (Unread (made-over k) k.a.state (event k) reads)
+    → StopsReading was read idle part k.turns.acts.fault (Filled (made-over k) k.a.state (left k) (unlisted k) waiting) (Unread (made-over k) k.a.state (unlisted k) reads)
     → Comes k arrived had part stands was Passes reads waiting → read ≡ true
 read-if-comes k unfailed arrived had part stands was read idle Passes reads waiting rests (StopsReading.ended h) c = not-both was h c.unread
 read-if-comes k unfailed arrived had part stands was read idle Passes reads waiting rests (StopsReading.ends' h) c = h
@@ -370,7 +374,7 @@ target-rest-told k h =
 -- ---- the faults
 
 -- by the record behind what the turn took, and the one that it leaves
-could-fail : (k : Turning) → Failing → Bool
+abbrev could-fail : (k : Turning) → Failing → Bool
 could-fail k = can_fail_in (basis_of k.w) (taken (basis_of k.w) k.generation (k.config).methods (event k) k.a.state) (behind_turn k.w (event k))
 
 fails-where : (k : Turning) (x : Object) (failed : Option Kind) → FailsWhere (basis_of k.w) k.turns.behind (left k) x failed → IfSome failed (λ kind. could-fail k (x, call_of kind) ≡ true)

@@ -70,7 +70,7 @@ unfolding turn_shown
 shown world g ev r h = h
 
 -- what a turn tells of its failed calls
-tries-of : (net net' : NetInMemory) (a : Assoc LinkInMemory) (next : Next LinkInMemory) (stands' : List Line → List StopBy → Type 0) (s : Context) (now : ℕ)
+abbrev tries-of : (net net' : NetInMemory) (a : Assoc LinkInMemory) (next : Next LinkInMemory) (stands' : List Line → List StopBy → Type 0) (s : Context) (now : ℕ)
     → (t : Turns told_of_link (λ (l : LinkInMemory). l.counts) stands' s now (told_of_net net) (told_of_net net') a next) → Tries net a (left_of next) t.acts
 tries-of net net' a next stands' s now t = record { failed_c = t.failed_c; failed_t = t.failed_t; tried_c = t.tried_c; tried_t = t.tried_t; fault_is = t.fault_is; unwritten_is = t.unwritten_is }
 

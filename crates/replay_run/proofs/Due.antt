@@ -47,7 +47,7 @@ same-object Object.Port Object.Door h = cc
 same-object Object.Port Object.Port h = refl
 
 -- the call that is asked for is that one
-fault-is : (x : Object) (call : CallKind) (f : Failing) → is_fault x call f ≡ true → f ≡ (x, call)
+pub fault-is : (x : Object) (call : CallKind) (f : Failing) → is_fault x call f ≡ true → f ≡ (x, call)
 fault-is x CallKind.Reading (y, CallKind.Reading) h = ap (λ (z : Object). let f : Failing = (z, CallKind.Reading) in f) (sym (same-object x y h))
 fault-is x CallKind.Reading (y, CallKind.Writing) h = cc
 fault-is x CallKind.Reading (y, CallKind.Shutting) h = cc

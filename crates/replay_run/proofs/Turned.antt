@@ -1,5 +1,5 @@
 -- The world behind a turn, and that the replay still holds what it is.
-use Rattle.std.proofs.Common.{ℕ, zero, suc, ◌≡◌, ◌≤◌, ◌+◌, ◌∙◌, sym, ap, subst, refl, Bool, true, false, Option, Some, None, is_some, if◌then◌else◌, List, [], ◌∷◌, length, map, arith, slice_set}
+use Rattle.std.proofs.Common.{ℕ, zero, suc, ◌≡◌, ◌≤◌, ◌+◌, ◌∙◌, sym, ap, subst, refl, Bool, true, false, Option, Some, None, is_some, if◌then◌else◌, List, [], ◌∷◌, length, map, arith, slice_set, filter, not}
 use Rattle.std.specs.Prelude.{slice_get, unwrap_or}
 use Rattle.conf_types.specs.declared.entries.Entries.{Entries}
 use Rattle.socks_grammar.specs.declared.user.User.{User}

@@ -23,36 +23,10 @@ const DECIDE: &[&str] = &[
     "connect",
 ];
 
-/// What no rule passes.
-const DECIDED: &str = "client none\nverdict block\n";
+/// The number of the read, of the write and of the call on the store that fails, or 0, and how much the output takes.
+type Trouble = (u64, u64, u64, usize);
 
-/// The calls of the ends that fail, by their numbers, and how much the outputs take.
-#[derive(Clone, Copy)]
-struct Trouble {
-    read: u64,
-    write: u64,
-    file: u64,
-    room: usize,
-    error_room: usize,
-}
-
-const NONE: Trouble = Trouble {
-    read: 0,
-    write: 0,
-    file: 0,
-    room: 200,
-    error_room: 100,
-};
-
-/// A run, and what it is to give.
-#[derive(Clone, Copy)]
-struct Run {
-    words: &'static [&'static str],
-    trouble: Trouble,
-    status: u8,
-    output: &'static str,
-    error: &'static str,
-}
+const NONE: Trouble = (0, 0, 0, 200);
 
 fn list_of(alloc: Global, words: &[&str]) -> Option<Vec<String>> {
     let mut list = Vec::new(alloc);
@@ -63,19 +37,19 @@ fn list_of(alloc: Global, words: &[&str]) -> Option<Vec<String>> {
 }
 
 /// Whether a run gives that and nothing else, on the shortest script and a store with one file.
-fn gives(alloc: Global, run: &Run) -> Option<bool> {
-    let words = list_of(alloc, run.words)?;
+fn gives(alloc: Global, words: &[&str], trouble: Trouble, status: u8, text: &str, fault: &str) -> Option<bool> {
+    let words = list_of(alloc, words)?;
     let mut source = MemSource::make(alloc, 0).ok()?;
     source.put(b"sockd-script 1\n").ok()?;
-    source.fail_at(run.trouble.read).ok()?;
-    let mut output = MemSink::make(alloc, run.trouble.room).ok()?;
-    output.fail_at(run.trouble.write).ok()?;
-    let mut error = MemSink::make(alloc, run.trouble.error_room).ok()?;
+    source.fail_at(trouble.0).ok()?;
+    let mut output = MemSink::make(alloc, trouble.3).ok()?;
+    output.fail_at(trouble.1).ok()?;
+    let mut error = MemSink::make(alloc, 100).ok()?;
     let mut files = MemStore::make(alloc, 1).ok()?;
     files.put("office.conf", OFFICE.as_bytes()).ok()?;
-    files.fail_at(run.trouble.file).ok()?;
+    files.fail_at(trouble.2).ok()?;
     let mut caller = MemCaller::make(alloc, 0).ok()?;
-    let status = quick(
+    let answer = quick(
         alloc,
         words.as_slice(),
         &mut source,
@@ -84,74 +58,24 @@ fn gives(alloc: Global, run: &Run) -> Option<bool> {
         &mut files,
         &mut caller,
     );
-    Some(
-        status == run.status
-            && output.taken() == run.output.as_bytes()
-            && error.taken() == run.error.as_bytes(),
-    )
-}
-
-fn done(words: &'static [&'static str], output: &'static str) -> Run {
-    Run {
-        words,
-        trouble: NONE,
-        status: 0,
-        output,
-        error: "",
-    }
+    Some(answer == status && output.taken() == text.as_bytes() && error.taken() == fault.as_bytes())
 }
 
 #[test]
-fn commands(rt: HostRuntime) {
-    for (words, output) in [(REPLAY, "close\n"), (CHECK, OFFICE), (DECIDE, DECIDED)] {
-        assert_eq!(rt;
-            gives(rt.alloc(), &done(words, output)),
-            Some(true),
-            "at {output}"
-        );
-    }
-}
-
-fn faulted(
-    words: &'static [&'static str],
-    trouble: Trouble,
-    output: &'static str,
-    error: &'static str,
-) -> Run {
-    Run {
-        words,
-        trouble,
-        status: 3,
-        output,
-        error,
-    }
-}
-
-#[test]
-fn failing_ends(rt: HostRuntime) {
-    let input = "sockd: fault input\n";
-    let output = "sockd: fault output\n";
-    let store = "sockd: fault store\n";
-    for run in [
-        faulted(REPLAY, Trouble { read: 1, ..NONE }, "", input),
-        faulted(REPLAY, Trouble { read: 2, ..NONE }, "", input),
-        faulted(REPLAY, Trouble { write: 1, ..NONE }, "", output),
-        faulted(REPLAY, Trouble { room: 3, ..NONE }, "clo", output),
-        faulted(CHECK, Trouble { file: 1, ..NONE }, "", store),
-        faulted(CHECK, Trouble { room: 9, ..NONE }, "internal:", output),
-        faulted(DECIDE, Trouble { file: 1, ..NONE }, "", store),
-        faulted(DECIDE, Trouble { room: 6, ..NONE }, "client", output),
-        faulted(
-            REPLAY,
-            Trouble {
-                read: 1,
-                error_room: 7,
-                ..NONE
-            },
-            "",
-            "sockd: ",
-        ),
+fn each_end_may_fail(rt: HostRuntime) {
+    for (words, trouble, status, text, fault) in [
+        (REPLAY, NONE, 0, "close\n", ""),
+        (CHECK, NONE, 0, OFFICE, ""),
+        (DECIDE, NONE, 0, "client none\nverdict block\n", ""),
+        (REPLAY, (1, 0, 0, 200), 3, "", "sockd: fault input\n"),
+        (REPLAY, (0, 1, 0, 200), 3, "", "sockd: fault output\n"),
+        (CHECK, (0, 0, 1, 200), 3, "", "sockd: fault store\n"),
+        (DECIDE, (0, 0, 0, 6), 3, "client", "sockd: fault output\n"),
     ] {
-        assert_eq!(rt; gives(rt.alloc(), &run), Some(true), "at {}", run.error);
+        assert_eq!(rt;
+            gives(rt.alloc(), words, trouble, status, text, fault),
+            Some(true),
+            "at {text}{fault}"
+        );
     }
 }
