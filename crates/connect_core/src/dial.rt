@@ -1,5 +1,5 @@
 ghost use Rattle.std.specs.Prelude.{◌≡◌};
-ghost use Rattle.net_ends.specs.Nets.{NetLater, SameLookups};
+ghost use Rattle.net_ends.specs.Nets.{NetLater, SameLookups, SameOpenings};
 ghost use Rattle.net_ends.specs.Told.{IsFresh};
 ghost use Rattle.connect_core.specs.Reaching.{IfReached, OnFailed, Reaches};
 
@@ -21,6 +21,7 @@ pub enum Reached<L> {
 pub fn reach<N: Net>(net: &mut N, to: Endpoint) -> Reached<N::Link>
     ensures dial { Reaches N.Link.told N.Link.counts (N.told net.old) (N.told net.new) to result }
     ensures lookups { SameLookups (N.told net.old) (N.told net.new) }
+    ensures openings { SameOpenings (N.told net.old) (N.told net.new) }
     ensures kept { OnFailed result ((N.told net.new).plan ≡ (N.told net.old).plan) }
     ensures fresh { IfReached result (λ link. IsFresh (N.Link.told link)) }
     ensures later { NetLater (N.told net.old).counts (N.told net.new).counts }

@@ -1,10 +1,13 @@
 pub mod Callers
 pub mod Counts
+pub mod Doors
 pub mod Failing
 pub mod Faults
 pub mod InMemory
 pub mod Nets
+pub mod Openings
 pub mod Plans
+pub mod Ports
 pub mod Stores
 pub mod Streams
 pub mod Told

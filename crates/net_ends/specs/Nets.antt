@@ -1,10 +1,12 @@
--- What a net tells of its lookups and its dials.
+-- What a net tells of its lookups, its dials, and the doors and ports that it opened.
 use Rattle.std.specs.Prelude.{◌≡◌, ◌≤◌, ℕ, Option, Some, None, List, [], ◌∷◌, ◌++◌}
+use Rattle.addr_pattern.specs.declared.addr.Addr.{Addr}
 use Rattle.addr_pattern.specs.declared.endpoint.Endpoint.{Endpoint}
 use Rattle.net_ends.specs.declared.kinds.Kinds.{Kinds}
 use Rattle.net_ends.specs.declared.net.Dialing.{Dialing}
 use Rattle.net_ends.specs.declared.net.Lookup.{Lookup}
 use Rattle.net_ends.specs.Counts.{Counts, Rose}
+use Rattle.net_ends.specs.Openings.{Opened, PlannedDoor, PlannedPort}
 use Rattle.net_ends.specs.Told.{Told}
 
 -- how a dial came out
@@ -47,13 +49,18 @@ pub record NetCounts : Type 0 where
   pub no_net : ℕ
   pub faults : ℕ
 
--- The lookups and the dials so far, where it tells, and how often each failure was answered. A net of memory tells more: how its
--- next lookup comes out, and the plan of its next dial.
+-- The lookups, the dials and the openings of doors and of ports so far, where it tells, and how often each failure was answered. A
+-- net of memory tells more: how its next lookup comes out, the plan of its next dial, and what the next door and the next port tell
+-- that it opens, or that this fails.
 pub record NetTold : Type 0 where
   pub lookups : Option (List LookedUp)
   pub dials : Option (List Dial)
+  pub doors : Option (List Opened)
+  pub ports : Option (List Opened)
   pub lookup_plan : Option Lookup
   pub plan : Option Plan
+  pub door_plan : Option (Option PlannedDoor)
+  pub port_plan : Option (Option PlannedPort)
   pub counts : NetCounts
 
 abbrev pub looked_up : Option (List LookedUp) → LookedUp → Option (List LookedUp)
@@ -68,6 +75,13 @@ dialled (Some dials) dial = Some (dials ++ dial ∷ [])
 pub record SameLookups (old new : NetTold) : Type 0 where
   pub lookups : new.lookups ≡ old.lookups
   pub plan : new.lookup_plan ≡ old.lookup_plan
+
+-- no door and no port was opened, and the next of each opens as it was to
+pub record SameOpenings (old new : NetTold) : Type 0 where
+  pub doors : new.doors ≡ old.doors
+  pub ports : new.ports ≡ old.ports
+  pub door_plan : new.door_plan ≡ old.door_plan
+  pub port_plan : new.port_plan ≡ old.port_plan
 
 -- no count fell
 pub record NetLater (old new : NetCounts) : Type 0 where

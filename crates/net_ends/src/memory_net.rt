@@ -1,9 +1,12 @@
 ghost use Rattle.std.specs.Prelude.{◌≡◌, ◌++◌, ◌+◌, true, false, Some, IfOk, OnOk, OnErr, option_copied};
 
 use crate::kinds::Kind;
+use crate::memory_door::MemDoor;
 use crate::memory_link::MemLink;
+use crate::memory_port::MemPort;
 use crate::net::{Dialing, Lookup, Net};
-use addr_pattern::{Endpoint, Name};
+use crate::opening::{OpenPlan, Opening};
+use addr_pattern::{Addr, Endpoint, Name};
 use lists::Memory;
 use std::alloc::Global;
 use std::marker::Model;
@@ -22,15 +25,21 @@ pub enum DialPlan {
 
 /// A net that holds the link of its next dial, at which bytes can arrive before the dial. The dial is refused unless another
 /// outcome is planned; once a link was given, the next dial is refused again. No name is found unless another outcome is
-/// planned, which each lookup then has.
+/// planned, which each lookup then has. A door and a port wait likewise; the next opening of each fails unless it is planned to open,
+/// and once it did the next one fails again.
 #[derive(Drop)]
 pub struct MemNet {
     alloc: Global,
     lookup: Lookup,
     outcome: DialPlan,
     link: MemLink,
+    door_plan: OpenPlan,
+    door: MemDoor,
+    port_plan: OpenPlan,
+    port: MemPort,
     last_lookup: Option<Name>,
     last: Option<Endpoint>,
+    last_opening: Option<Addr>,
     not_found: u64,
     refused: u64,
     no_host: u64,
@@ -39,7 +48,7 @@ pub struct MemNet {
 }
 
 impl Model for MemNet {
-    ghost use Rattle.net_ends.specs.InMemory.{NetInMemory, IsUnused};
+    ghost use Rattle.net_ends.specs.InMemory.{NetInMemory, IsUnused, IsUnusedPort};
     ghost use Rattle.net_ends.specs.Plans.{planned};
 
     ghost Value = { NetInMemory };
@@ -48,19 +57,30 @@ impl Model for MemNet {
       lookup = n.lookup;
       outcome = planned n.outcome;
       link = n.link;
+      door_plan = n.door_plan;
+      door = n.door;
+      port_plan = n.port_plan;
+      port = n.port;
       last_lookup = n.last_lookup;
       last = n.last;
+      last_opening = n.last_opening;
       counts = record { not_found = n.not_found; refused = n.refused; no_host = n.no_host; no_net = n.no_net; faults = n.faults };
     } };
 
-    ghost invariant = { λ n. IsUnused n.link };
+    ghost invariant = { λ n. IsUnused n.link × IsUnusedPort n.port };
 }
 
+/// Where a door or a port stands that isn't open yet.
+const NOWHERE: Endpoint = Endpoint {
+    addr: Addr::V4(0),
+    port: 0,
+};
+
 impl MemNet {
-    ghost use Rattle.net_ends.specs.InMemory.{fresh_net, with_next};
+    ghost use Rattle.net_ends.specs.InMemory.{IsUnusedPort, fresh_door, fresh_net, fresh_port, no_room, nowhere, with_next};
     ghost use Rattle.net_ends.specs.Plans.{planned};
 
-    /// A net that finds no name and whose next dial is refused. The link that waits in it has room for that many bytes that it takes.
+    /// A net that finds no name, whose next dial is refused and whose next openings fail. The link that waits in it has room for that many bytes that it takes.
     pub fn make(alloc: Global, cap: usize) -> Result<MemNet, Memory>
         ensures { IfOk result (λ net. net ≡ fresh_net cap) }
     {
@@ -70,8 +90,13 @@ impl MemNet {
                 lookup: Lookup::NotFound,
                 outcome: DialPlan::Refused,
                 link,
+                door_plan: OpenPlan::Failed,
+                door: MemDoor::empty(alloc, NOWHERE),
+                port_plan: OpenPlan::Failed,
+                port: MemPort::empty(alloc, NOWHERE),
                 last_lookup: None,
                 last: None,
+                last_opening: None,
                 not_found: 0,
                 refused: 0,
                 no_host: 0,
@@ -134,6 +159,54 @@ impl MemNet {
         self.link.fail_next(kind)
     }
 
+    /// The next opening of a door comes out so.
+    pub fn plan_door(&mut self, outcome: OpenPlan)
+        ensures { self.new ≡ record self.old { door_plan = outcome } }
+    {
+        self.door_plan = outcome;
+    }
+
+    /// The next opening of a port comes out so.
+    pub fn plan_port(&mut self, outcome: OpenPlan)
+        ensures { self.new ≡ record self.old { port_plan = outcome } }
+    {
+        self.port_plan = outcome;
+    }
+
+    /// This door is the one that waits. Its local endpoint is that of the plan once it opens.
+    pub fn offer_door(&mut self, door: MemDoor)
+        ensures { self.new ≡ record self.old { door = door } }
+    {
+        self.door = door;
+    }
+
+    /// This port is the one that waits, likewise.
+    pub fn offer_port(&mut self, port: MemPort)
+        requires { IsUnusedPort port }
+        ensures { self.new ≡ record self.old { port = port } }
+    {
+        self.port = port;
+    }
+
+    /// Takes the door that waits, to be changed and offered again. One to which nobody comes waits in its place.
+    pub fn take_door(&mut self) -> MemDoor
+        ensures taken { result ≡ self.old.door }
+        ensures left { self.new ≡ record self.old { door = fresh_door nowhere 0 } }
+    {
+        let next = MemDoor::empty(self.alloc, NOWHERE);
+        mem::replace(&mut self.door, next)
+    }
+
+    /// Takes the port that waits, likewise.
+    pub fn take_port(&mut self) -> MemPort
+        ensures taken { result ≡ self.old.port }
+        ensures unused { IsUnusedPort result }
+        ensures left { self.new ≡ record self.old { port = fresh_port nowhere no_room } }
+    {
+        let next = MemPort::empty(self.alloc, NOWHERE);
+        mem::replace(&mut self.port, next)
+    }
+
     /// Which name was looked up last.
     pub fn last_lookup(&self) -> Option<&Name>
         ensures { option_copied result ≡ self.now.last_lookup }
@@ -147,16 +220,31 @@ impl MemNet {
     {
         self.last
     }
+
+    /// At which address a door or a port was opened last, or was to be.
+    pub fn last_opening(&self) -> Option<Addr>
+        ensures { result ≡ self.now.last_opening }
+    {
+        self.last_opening
+    }
 }
 
 impl Net for MemNet {
-    ghost use Rattle.std.specs.Prelude.{◌≡◌, Some};
-    ghost use Rattle.net_ends.specs.InMemory.{told_of_net, told_of_link, outcome_left, link_left};
+    ghost use Rattle.std.specs.Prelude.{◌≡◌, Option, Some};
+    ghost use Rattle.net_ends.specs.InMemory.{door_left, link_left, outcome_left, port_left, told_of_door, told_of_link, told_of_net, told_of_port};
     ghost use Rattle.net_ends.specs.declared.net.Lookup.{Lookup};
-    ghost use Rattle.net_ends.specs.Nets.{Plan, AsPlanned, KeepsPlan, SameLookups, IfUp, NetLater, LookupCause, DialCause, looked_up, dialled, outcome_of};
+    ghost use Rattle.net_ends.specs.declared.opening.OpenPlan.{OpenPlan};
+    ghost use Rattle.net_ends.specs.Doors.{IsFreshDoor, with_one};
+    ghost use Rattle.net_ends.specs.Nets.{Plan, AsPlanned, KeepsPlan, SameLookups, SameOpenings, IfUp, NetLater, LookupCause, DialCause, looked_up, dialled, outcome_of};
+    ghost use Rattle.net_ends.specs.Openings.{IfOpened, KeepsOpening, OpeningCause, PlannedDoor, PlannedPort, local_of, opened_door, opened_port};
+    ghost use Rattle.net_ends.specs.Ports.{IsFreshPort};
     ghost use Rattle.net_ends.specs.Told.{IsFresh};
 
     type Link = MemLink;
+
+    type Door = MemDoor;
+
+    type Port = MemPort;
 
     ghost told = { told_of_net };
 
@@ -183,6 +271,7 @@ impl Net for MemNet {
         ensures planned { (plan : Plan) → (told_of_net self.old).plan ≡ Some plan → AsPlanned told_of_link (λ link. link.counts) plan result }
         ensures kept { KeepsPlan result (told_of_net self.old).plan (told_of_net self.new).plan }
         ensures lookups { SameLookups (told_of_net self.old) (told_of_net self.new) }
+        ensures openings { SameOpenings (told_of_net self.old) (told_of_net self.new) }
         ensures fresh { IfUp result (λ link. IsFresh (told_of_link link)) }
         ensures later { NetLater self.old.counts self.new.counts }
         ensures cause { DialCause self.old.counts self.new.counts (outcome_of result) }
@@ -192,6 +281,9 @@ impl Net for MemNet {
         ensures link { self.new.link ≡ link_left self.old.outcome self.old.link }
         ensures last { self.new.last ≡ Some to }
         ensures last_lookup { self.new.last_lookup ≡ self.old.last_lookup }
+        ensures door { self.new.door ≡ self.old.door }
+        ensures port { self.new.port ≡ self.old.port }
+        ensures last_opening { self.new.last_opening ≡ self.old.last_opening }
     {
         self.last = Some(to);
         match self.outcome {
@@ -216,6 +308,58 @@ impl Net for MemNet {
             DialPlan::Failed => {
                 self.faults = self.faults.saturating_add(1);
                 Dialing::Failed
+            }
+        }
+    }
+
+    fn open_door(&mut self, at: Addr) -> Opening<MemDoor>
+        ensures told { told_of_net self.new ≡ record (told_of_net self.old) { doors = with_one (told_of_net self.old).doors (record { at = at; local = local_of (λ door. (told_of_door door).local) result }); door_plan = (told_of_net self.new).door_plan; counts = self.new.counts } }
+        ensures planned { (plan : Option PlannedDoor) → (told_of_net self.old).door_plan ≡ Some plan → opened_door told_of_door (λ door. door.counts) result ≡ plan }
+        ensures kept { KeepsOpening result (told_of_net self.old).door_plan (told_of_net self.new).door_plan }
+        ensures fresh { IfOpened result (λ door. IsFreshDoor (told_of_door door)) }
+        ensures later { NetLater self.old.counts self.new.counts }
+        ensures cause { OpeningCause self.old.counts.faults self.new.counts.faults result }
+
+        // Beside the clauses of the trait: the door is given once, the address is kept, and nothing else changes but the counts.
+        ensures rest { self.new ≡ record self.old { door_plan = OpenPlan.Failed; door = door_left self.old.door_plan self.old.door; last_opening = Some at; counts = self.new.counts } }
+    {
+        self.last_opening = Some(at);
+        match self.door_plan {
+            OpenPlan::Open(local) => {
+                self.door_plan = OpenPlan::Failed;
+                let mut door = self.take_door();
+                door.stand_at(local);
+                Opening::Open(door)
+            }
+            OpenPlan::Failed => {
+                self.faults = self.faults.saturating_add(1);
+                Opening::Failed
+            }
+        }
+    }
+
+    fn open_port(&mut self, at: Addr) -> Opening<MemPort>
+        ensures told { told_of_net self.new ≡ record (told_of_net self.old) { ports = with_one (told_of_net self.old).ports (record { at = at; local = local_of (λ port. (told_of_port port).local) result }); port_plan = (told_of_net self.new).port_plan; counts = self.new.counts } }
+        ensures planned { (plan : Option PlannedPort) → (told_of_net self.old).port_plan ≡ Some plan → opened_port told_of_port (λ port. port.counts) result ≡ plan }
+        ensures kept { KeepsOpening result (told_of_net self.old).port_plan (told_of_net self.new).port_plan }
+        ensures fresh { IfOpened result (λ port. IsFreshPort (told_of_port port)) }
+        ensures later { NetLater self.old.counts self.new.counts }
+        ensures cause { OpeningCause self.old.counts.faults self.new.counts.faults result }
+
+        // Beside the clauses of the trait: the port is given once, the address is kept, and nothing else changes but the counts.
+        ensures rest { self.new ≡ record self.old { port_plan = OpenPlan.Failed; port = port_left self.old.port_plan self.old.port; last_opening = Some at; counts = self.new.counts } }
+    {
+        self.last_opening = Some(at);
+        match self.port_plan {
+            OpenPlan::Open(local) => {
+                self.port_plan = OpenPlan::Failed;
+                let mut port = self.take_port();
+                port.stand_at(local);
+                Opening::Open(port)
+            }
+            OpenPlan::Failed => {
+                self.faults = self.faults.saturating_add(1);
+                Opening::Failed
             }
         }
     }

@@ -1,9 +1,15 @@
 ghost use Rattle.std.specs.Prelude.{◌≡◌, ◌≤◌, Some, List, ℕ, Option};
 ghost use Rattle.net_ends.specs.declared.net.Lookup.{Lookup};
+ghost use Rattle.net_ends.specs.Doors.{IsFreshDoor, with_one};
+ghost use Rattle.net_ends.specs.Nets.{NetTold, Plan, NetLater, LookupCause, DialCause, IfUp, AsPlanned, KeepsPlan, SameLookups, SameOpenings, looked_up, dialled, outcome_of};
+ghost use Rattle.net_ends.specs.Openings.{IfOpened, KeepsOpening, OpeningCause, PlannedDoor, PlannedPort, local_of, opened_door, opened_port};
+ghost use Rattle.net_ends.specs.Ports.{IsFreshPort};
 ghost use Rattle.net_ends.specs.Told.{IsFresh};
-ghost use Rattle.net_ends.specs.Nets.{NetTold, Plan, NetLater, LookupCause, DialCause, IfUp, AsPlanned, KeepsPlan, SameLookups, looked_up, dialled, outcome_of};
 
+use crate::door::Door;
 use crate::link::Link;
+use crate::opening::Opening;
+use crate::port::Port;
 use addr_pattern::{Addr, Endpoint, Name};
 
 /// What a lookup of a name came to.
@@ -26,11 +32,16 @@ pub enum Dialing<L> {
     Failed,
 }
 
-/// What looks names up and opens links. A lookup and a dial hold their caller until they have an outcome.
+/// What looks names up, and opens links, doors and ports. A lookup and a dial hold their caller until they have an outcome.
 pub trait Net {
     type Link: Link;
 
-    /// The lookups and the dials so far, where it tells, and how the next of each comes out; how often each failure was answered.
+    type Door: Door<Link = Self::Link>;
+
+    type Port: Port;
+
+    /// The lookups, the dials and the openings so far, where it tells, and how the next of each comes out; how often each failure was
+    /// answered.
     ghost told: { Self → NetTold };
 
     fn lookup(&mut self, name: &Name) -> Lookup
@@ -44,7 +55,26 @@ pub trait Net {
         ensures planned { (plan : Plan) → (told self.old).plan ≡ Some plan → AsPlanned Self.Link.told Self.Link.counts plan result }
         ensures kept { KeepsPlan result (told self.old).plan (told self.new).plan }
         ensures lookups { SameLookups (told self.old) (told self.new) }
+        ensures openings { SameOpenings (told self.old) (told self.new) }
         ensures fresh { IfUp result (λ link. IsFresh (Self.Link.told link)) }
         ensures later { NetLater (told self.old).counts (told self.new).counts }
         ensures cause { DialCause (told self.old).counts (told self.new).counts (outcome_of result) };
+
+    /// Opens a door at this address, at a port of the net's choice.
+    fn open_door(&mut self, at: Addr) -> Opening<Self::Door>
+        ensures told { told self.new ≡ record (told self.old) { doors = with_one (told self.old).doors (record { at = at; local = local_of (λ door. (Self.Door.told door).local) result }); door_plan = (told self.new).door_plan; counts = (told self.new).counts } }
+        ensures planned { (plan : Option PlannedDoor) → (told self.old).door_plan ≡ Some plan → opened_door Self.Door.told Self.Door.counts result ≡ plan }
+        ensures kept { KeepsOpening result (told self.old).door_plan (told self.new).door_plan }
+        ensures fresh { IfOpened result (λ door. IsFreshDoor (Self.Door.told door)) }
+        ensures later { NetLater (told self.old).counts (told self.new).counts }
+        ensures cause { OpeningCause (told self.old).counts.faults (told self.new).counts.faults result };
+
+    /// Opens a port at this address, at a port number of the net's choice.
+    fn open_port(&mut self, at: Addr) -> Opening<Self::Port>
+        ensures told { told self.new ≡ record (told self.old) { ports = with_one (told self.old).ports (record { at = at; local = local_of (λ port. (Self.Port.told port).local) result }); port_plan = (told self.new).port_plan; counts = (told self.new).counts } }
+        ensures planned { (plan : Option PlannedPort) → (told self.old).port_plan ≡ Some plan → opened_port Self.Port.told Self.Port.counts result ≡ plan }
+        ensures kept { KeepsOpening result (told self.old).port_plan (told self.new).port_plan }
+        ensures fresh { IfOpened result (λ port. IsFreshPort (Self.Port.told port)) }
+        ensures later { NetLater (told self.old).counts (told self.new).counts }
+        ensures cause { OpeningCause (told self.old).counts.faults (told self.new).counts.faults result };
 }
