@@ -7,3 +7,6 @@ mod links;
 mod rule;
 
 pub use index::RuleIndex;
+
+#[cfg(test)]
+mod tests;
