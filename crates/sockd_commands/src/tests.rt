@@ -37,7 +37,14 @@ fn list_of(alloc: Global, words: &[&str]) -> Option<Vec<String>> {
 }
 
 /// Whether a run gives that and nothing else, on the shortest script and a store with one file.
-fn gives(alloc: Global, words: &[&str], trouble: Trouble, status: u8, text: &str, fault: &str) -> Option<bool> {
+fn gives(
+    alloc: Global,
+    words: &[&str],
+    trouble: Trouble,
+    status: u8,
+    text: &str,
+    fault: &str,
+) -> Option<bool> {
     let words = list_of(alloc, words)?;
     let mut source = MemSource::make(alloc, 0).ok()?;
     source.put(b"sockd-script 1\n").ok()?;

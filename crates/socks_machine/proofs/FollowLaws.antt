@@ -101,8 +101,10 @@ take-of (x ∷ xs) ys = ap (λ (z : List ℕ). x ∷ z) (take-of xs ys)
 prefix-decides : (part whole : List ℕ) → Decides (starts_with part whole) (IsPrefix part whole)
 prefix-decides part whole = Decides-like (starts_with part whole)
     (λ h. (drop (length part) whole, ap (λ (z : List ℕ). z ++ drop (length part) whole) (sym h.1) ∙ take-append-drop (length part) whole))
-    (λ h. (let e : length whole ≡ length part + length h.0 = ap length (sym h.1) ∙ length-append part h.0 in omega arith,
-        ap (take (length part)) (sym h.1) ∙ take-of part h.0))
+    (λ h. (
+      let e : length whole ≡ length part + length h.0 = ap length (sym h.1) ∙ length-append part h.0 in omega arith,
+      ap (take (length part)) (sym h.1) ∙ take-of part h.0,
+    ))
     (both (le-decides (length part) (length whole)) (bytes_eq-Decides (take (length part) whole) part))
 
 grams-decide : (ds : List Gram) (xs : List (Endpoint × List ℕ)) → Decides (all_grams ds xs) (IsPrefix (map packet ds) xs)
@@ -111,7 +113,7 @@ grams-decide (d ∷ ds) [] = (λ h. cc, λ h. let e = h.1 in cc)
 grams-decide (d ∷ ds) (x ∷ xs) = Decides-like (all_grams (d ∷ ds) (x ∷ xs))
     (λ h. (h.1.0, λ i. (h.0.0 i, h.0.1 i) ∷ h.1.1 i))
     (λ h. let head : packet d ≡ x = let e = h.1 in cc in let rest : map packet ds ++ h.0 ≡ xs = let e = h.1 in cc in
-        ((ap (λ (z : Endpoint × List ℕ). z.0) head, ap (λ (z : Endpoint × List ℕ). z.1) head), (h.0, rest)))
+    ((ap (λ (z : Endpoint × List ℕ). z.0) head, ap (λ (z : Endpoint × List ℕ). z.1) head), (h.0, rest)))
     (both (both (endpoint-decides d.peer x.0) (bytes_eq-Decides d.bytes x.1)) (grams-decide ds xs))
 
 same-grams-decide : (ds : List Gram) (xs : List (Endpoint × List ℕ)) → Decides (same_grams ds xs) (map packet ds ≡ xs)
@@ -121,7 +123,7 @@ same-grams-decide (d ∷ ds) [] = (λ h. cc, λ h. cc)
 same-grams-decide (d ∷ ds) (x ∷ xs) = Decides-like (same_grams (d ∷ ds) (x ∷ xs))
     (λ h i. (h.0.0 i, h.0.1 i) ∷ h.1 i)
     (λ h. let head : packet d ≡ x = cc in let rest : map packet ds ≡ xs = cc in
-        ((ap (λ (z : Endpoint × List ℕ). z.0) head, ap (λ (z : Endpoint × List ℕ). z.1) head), rest))
+    ((ap (λ (z : Endpoint × List ℕ). z.0) head, ap (λ (z : Endpoint × List ℕ). z.1) head), rest))
     (both (both (endpoint-decides d.peer x.0) (bytes_eq-Decides d.bytes x.1)) (same-grams-decide ds xs))
 
 peer-decides : (came o : Option Endpoint) → Decides (peer_is came o) (IfSome came (λ p. o ≡ Some p))
@@ -303,8 +305,8 @@ faults-decide o ev can = Decides-like (faults_are o ev can)
     (λ h. record { named = h.0.0.0.0; undone = h.0.0.0.1; could = h.0.0.1; first = h.0.1; unwritten = h.1 })
     (λ h. ((((h.named, h.undone), h.could), h.first), h.unwritten))
     (both (both (both (both (itself-decides (list_all (is_among o.faults) ev.failed)) (not-decides (list_any (did ev) o.faults)))
-        (itself-decides (list_all can ev.failed))) (itself-decides (has_first ev.fault ev.failed)))
-        (bool-decides ev.unwritten (list_any writes_link ev.failed)))
+    (itself-decides (list_all can ev.failed))) (itself-decides (has_first ev.fault ev.failed)))
+    (bool-decides ev.unwritten (list_any writes_link ev.failed)))
 
 -- ---- ends
 
@@ -331,7 +333,7 @@ meets-decides basis generation config ev r left reads waiting None e = (λ h. cc
 meets-decides basis generation config ev r left reads waiting (Some b) e = Decides-like (meets basis reads waiting (Some b) left)
     (λ h. record { behind = b; taken' = e; read' = h.0; room = h.1 })
     (λ h. let same : h.behind ≡ b = let f = h.taken' in cc in
-        subst (λ (z : Record). (reads z (phase basis z) ≡ true) × (phase basis z ≡ Phase.Relay → IfSome left (λ x. waiting basis x < pipe_size))) same (h.read', h.room))
+    subst (λ (z : Record). (reads z (phase basis z) ≡ true) × (phase basis z ≡ Phase.Relay → IfSome left (λ x. waiting basis x < pipe_size))) same (h.read', h.room))
     (both (itself-decides (reads b (phase basis b))) (relay-decides (phase basis b) (has_room basis waiting left) (IfSome left (λ x. waiting basis x < pipe_size)) (room-decides basis waiting left)))
 
 comes-decides : (arrived there : List ℕ) (ended was : Bool) (part : List ℕ) (passes reads : Bool) (Passes Reads : Type 0) → Decides passes Passes → Decides reads Reads
@@ -475,7 +477,7 @@ event-decides s w (ScriptLine.Now n) e = (λ h. cc, λ h. absurd h)
 -- the events behind a turn of the rounds, by the world that it leaves
 further : (s : Surroundings) (w : World) (n : ℕ) (ns : List ℕ) (still : Bool) (ev : TurnEvent) (es : List Event) (x : Option World) → step w (Event.Turn ev) ≡ x → IsTurnOf s w 1 n ev
     → ((new : World) → rounds (used_up s ev) (Some new) (next_in_round ns (still && is_still ev) (Some new)).0 (next_in_round ns (still && is_still ev) (Some new)).1 es ≡ true
-        → Rounds (used_up s ev) new (next_in_round ns (still && is_still ev) (Some new)).0 (next_in_round ns (still && is_still ev) (Some new)).1 es)
+    → Rounds (used_up s ev) new (next_in_round ns (still && is_still ev) (Some new)).0 (next_in_round ns (still && is_still ev) (Some new)).1 es)
     → rounds (used_up s ev) x (next_in_round ns (still && is_still ev) x).0 (next_in_round ns (still && is_still ev) x).1 es ≡ true → Rounds s w (n ∷ ns) still (Event.Turn ev ∷ es)
 further s w n ns still ev es None e t go h = cc
 further s w n ns still ev es (Some new) e t go h = Rounds.round t e (go new h)
@@ -487,7 +489,7 @@ rounds-sound (e ∷ es) s w [] still h = cc
 rounds-sound (Event.Turn ev ∷ es) s w (n ∷ ns) still h =
     let two = (both (turn-decides s w 1 n ev) (itself-decides (rounds (used_up s ev) (step w (Event.Turn ev)) (next_in_round ns (still && is_still ev) (step w (Event.Turn ev))).0 (next_in_round ns (still && is_still ev) (step w (Event.Turn ev))).1 es))).0 h in
     further s w n ns still ev es (step w (Event.Turn ev)) refl two.0
-        (λ new k. rounds-sound es (used_up s ev) new (next_in_round ns (still && is_still ev) (Some new)).0 (next_in_round ns (still && is_still ev) (Some new)).1 k) two.1
+    (λ new k. rounds-sound es (used_up s ev) new (next_in_round ns (still && is_still ev) (Some new)).0 (next_in_round ns (still && is_still ev) (Some new)).1 k) two.1
 rounds-sound (Event.Publish k ∷ es) s w (n ∷ ns) still h = cc
 rounds-sound (Event.See v g ∷ es) s w (n ∷ ns) still h = cc
 rounds-sound (Event.Open v b p l m ∷ es) s w (n ∷ ns) still h = cc
@@ -496,10 +498,11 @@ rounds-sound (Event.Stop by ∷ es) s w (n ∷ ns) still h = cc
 rounds-complete : (s : Surroundings) (w : World) (ns : List ℕ) (still : Bool) (es : List Event) → Rounds s w ns still es → rounds s (Some w) ns still es ≡ true
 rounds-complete s w [] still [] Rounds.over = refl
 rounds-complete s w (n ∷ ns) still (Event.Turn ev ∷ es) (Rounds.round {new = new} t e r) =
-    (both (turn-decides s w 1 n ev) (itself-decides (rounds (used_up s ev) (step w (Event.Turn ev)) (next_in_round ns (still && is_still ev) (step w (Event.Turn ev))).0 (next_in_round ns (still && is_still ev) (step w (Event.Turn ev))).1 es))).1
-    (t, ap (λ (x : Option World). rounds (used_up s ev) x (next_in_round ns (still && is_still ev) x).0 (next_in_round ns (still && is_still ev) x).1 es) e
-        ∙ rounds-complete (used_up s ev) new (next_in_round ns (still && is_still ev) (Some new)).0 (next_in_round ns (still && is_still ev) (Some new)).1 es r)
-
+    (both (turn-decides s w 1 n ev) (itself-decides (rounds (used_up s ev) (step w (Event.Turn ev)) (next_in_round ns (still && is_still ev) (step w (Event.Turn ev))).0 (next_in_round ns (still && is_still ev) (step w (Event.Turn ev))).1 es))).1 (
+      t,
+      ap (λ (x : Option World). rounds (used_up s ev) x (next_in_round ns (still && is_still ev) x).0 (next_in_round ns (still && is_still ev) x).1 es) e
+          ∙ rounds-complete (used_up s ev) new (next_in_round ns (still && is_still ev) (Some new)).0 (next_in_round ns (still && is_still ev) (Some new)).1 es r,
+    )
 rounds-complete s w [] still (x ∷ es) r = elim r [ ]
 rounds-complete s w (n ∷ ns) still [] r = elim r [ ]
 rounds-complete s w (n ∷ ns) still (Event.Publish k ∷ es) r = elim r [ ]
