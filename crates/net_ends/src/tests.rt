@@ -1,3 +1,5 @@
+ghost use Rattle.std.specs.Prelude.{◌≡◌, length};
+
 use super::*;
 use addr_pattern::{Addr, Endpoint, Name};
 use lists::Memory;
@@ -252,5 +254,116 @@ fn caller_answers_as_planned(rt: HostRuntime) -> Result<(), Fail> {
         return Err("a wire came back".into());
     };
     assert!(rt; wire.has_ended());
+    Ok(())
+}
+
+/// Who came to the door, and what a read of the link then gives.
+fn meet<D: Door>(door: &mut D) -> Option<(Endpoint, Reading)>
+where
+    D::Link: Drop,
+{
+    match door.accept() {
+        Accepting::Got(mut link, peer) => Some((peer, link.read(&mut [0; 4]))),
+        Accepting::NotYet | Accepting::Failed => None,
+    }
+}
+
+#[test]
+fn door_gives_its_peer_once(rt: HostRuntime) -> Result<(), Fail> {
+    let mut door = MemDoor::make(rt.alloc(), LOCAL, 1).ok().ok_or("memory")?;
+    assert_eq!(rt; meet(&mut door), None);
+    door.come(TARGET);
+    door.arrive(b"hi").ok().ok_or("memory")?;
+    door.end();
+    door.spare(2).ok().ok_or("memory")?;
+    door.set_room(5);
+    door.fail_at(2).ok().ok_or("memory")?;
+    assert_eq!(rt; meet(&mut door), None);
+    assert_eq!(rt; meet(&mut door), Some((TARGET, Reading::Got(2))));
+    assert_eq!(rt; meet(&mut door), None);
+    assert_eq!(rt; door.local(), LOCAL);
+    door.come(TARGET);
+    door.fail_next_accept();
+    door.fail_next(Kind::Read);
+    assert_eq!(rt; meet(&mut door), None);
+    assert_eq!(rt; meet(&mut door), Some((TARGET, Reading::Failed)));
+    Ok(())
+}
+
+/// Receives once and sends two bytes back to `TARGET`.
+fn exchange<P: Port>(port: &mut P, buffer: &mut [u8]) -> (Receiving, Sending)
+    requires { length buffer.old ≡ 65535 }
+    ensures { length buffer.new ≡ 65535 }
+{
+    (port.recv(buffer), port.send(TARGET, b"ok"))
+}
+
+#[test]
+fn port_gives_and_takes_whole_datagrams(rt: HostRuntime) -> Result<(), Fail> {
+    let mut port = MemPort::make(rt.alloc(), LOCAL, 1, 3).ok().ok_or("memory")?;
+    port.arrive(rt.alloc(), TARGET, b"abc")
+        .ok()
+        .ok_or("memory")?;
+    port.reserve(2, 2).ok().ok_or("memory")?;
+    port.fail_at(3).ok().ok_or("memory")?;
+    port.fail_next_send();
+    let got = Receiving::Got {
+        len: 3,
+        from: TARGET,
+    };
+    let answers = [
+        (got, Sending::Failed),
+        (Receiving::Failed, Sending::Took),
+        (Receiving::NotYet, Sending::Took),
+        (Receiving::NotYet, Sending::NotYet),
+    ];
+    let mut buffer = vec![in rt.alloc(); 0; DATAGRAM]?;
+    for wanted in &answers {
+        assert_eq!(rt; exchange(&mut port, &mut buffer), *wanted);
+    }
+    port.fail_next_receive();
+    assert_eq!(rt;
+        exchange(&mut port, &mut buffer),
+        (Receiving::Failed, Sending::NotYet)
+    );
+    assert_eq!(rt; &buffer[..3], b"abc".as_slice());
+    assert_eq!(rt; port.taken_count(), 2);
+    assert_eq!(rt; port.local(), LOCAL);
+    Ok(())
+}
+
+/// Where a door and a port open at `at`.
+fn open_both<N: Net>(net: &mut N, at: Addr) -> (Option<Endpoint>, Option<Endpoint>)
+where
+    N::Door: Drop,
+    N::Port: Drop,
+{
+    let door = match net.open_door(at) {
+        Opening::Open(door) => Some(door.local()),
+        Opening::Failed => None,
+    };
+    let port = match net.open_port(at) {
+        Opening::Open(port) => Some(port.local()),
+        Opening::Failed => None,
+    };
+    (door, port)
+}
+
+#[test]
+fn net_opens_its_door_and_its_port_once(rt: HostRuntime) -> Result<(), Fail> {
+    let mut net = MemNet::make(rt.alloc(), 0).ok().ok_or("memory")?;
+    assert_eq!(rt; open_both(&mut net, LOCAL.addr), (None, None));
+    let door = net.take_door();
+    net.offer_door(door);
+    let port = net.take_port();
+    net.offer_port(port);
+    net.plan_door(OpenPlan::Open(LOCAL));
+    net.plan_port(OpenPlan::Open(TARGET));
+    assert_eq!(rt;
+        open_both(&mut net, TARGET.addr),
+        (Some(LOCAL), Some(TARGET))
+    );
+    assert_eq!(rt; net.last_opening(), Some(TARGET.addr));
+    assert_eq!(rt; open_both(&mut net, LOCAL.addr), (None, None));
     Ok(())
 }

@@ -1,0 +1,2 @@
+pub mod DoorOpening
+pub mod Waiting
