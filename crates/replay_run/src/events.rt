@@ -4,7 +4,7 @@ ghost use Rattle.net_ends.specs.InMemory.{fresh_link, fresh_net};
 ghost use Rattle.socks_machine.specs.declared.script.ScriptLine.TheVariants.{Publish, See, Open, Now};
 ghost use Rattle.socks_machine.specs.Step.{fresh};
 ghost use Rattle.replay_run.specs.Behind.{GoesBehind};
-ghost use Rattle.replay_run.specs.Changes.{opened_slot};
+ghost use Rattle.replay_run.specs.Changes.{opened_slot, room_for_replies};
 
 use crate::lines::{show_open, show_publish, show_see};
 use crate::slot::Slot;
@@ -19,13 +19,33 @@ use std::alloc::{AllocError, Global};
 /// Room at the client's link for all replies of the proxy, in bytes.
 const REPLIES: usize = 64;
 
+/// The net of an association for which nothing was planned yet.
+fn unplanned_net(alloc: Global) -> Option<MemNet>
+    ensures { IfSome result (λ net. net ≡ fresh_net 0) }
+{
+    MemNet::make(alloc, 0).ok()
+}
+
 /// The association of this number that is opened at this moment, on which nothing has happened yet.
+fn new_association(
+    alloc: Global,
+    number: u64,
+    peer: Endpoint,
+    local: Endpoint,
+    now: u64,
+) -> Option<Assoc<MemLink>>
+    ensures { IfSome result (λ assoc. assoc ≡ record { state = fresh number peer local now; client = fresh_link room_for_replies; target = None }) }
+{
+    let client = MemLink::make(alloc, REPLIES).ok()?;
+    Assoc::open(alloc, number, client, peer, local, now).ok()
+}
+
+/// The place of such an association, with its net.
 fn opened(alloc: Global, number: u64, peer: Endpoint, local: Endpoint, now: u64) -> Option<Slot>
     ensures { IfSome result (λ slot. slot ≡ opened_slot number peer local now) }
 {
-    let client = MemLink::make(alloc, REPLIES).ok()?;
-    let net = MemNet::make(alloc, 0).ok()?;
-    let assoc = Assoc::open(alloc, number, client, peer, local, now).ok()?;
+    let net = unplanned_net(alloc)?;
+    let assoc = new_association(alloc, number, peer, local, now)?;
     Some(Slot::Going { assoc, net })
 }
 
