@@ -66,10 +66,6 @@ asked_heard t q len whole p m = record {
   sent' = λ cause unlogged. first-sent t cause (unlogged ∙ sym (ap is_failed_split whole));
 }
 
-no-name : (host : Host) → name_of host ≡ None → (a : Addr) × (host ≡ Host.Addr a)
-no-name (Host.Addr a) h = (a, refl)
-no-name (Host.Name name) h = absurd (cc)
-
 -- a request to an address is to be judged
 pub meets-judging : (t : Hearing) (q : Request) (len : ℕ) → split_heard t ≡ Split.Whole q len → name_of q.host ≡ None → Meets t (Phase.Judging q)
 meets-judging t q len whole named = record {

@@ -78,12 +78,6 @@ pub record HasTaken (methods : List Method) (users : List User) (bytes : List �
   pub method : client.method ≡ method_after methods None bytes
   pub is : IsTaken users client bytes taken
 
-pub takes-first : (methods : List Method) (users : List User) (start new : Client) (bytes : List ℕ) (taken : Taken) → start ≡ record { bytes = []; method = None; over = false }
-    → Takes methods users start bytes taken new → HasTaken methods users bytes taken new
-takes-first methods users start new bytes taken is h =
-    let k = subst (λ (c : Client). Takes methods users c bytes taken new) is h in
-    record { method = k.method; is = k.is }
-
 -- the bytes behind those that left it open
 pub takes-behind : (methods : List Method) (users : List User) (old new : Client) (before x : List ℕ) (taken : Taken) → HasTaken methods users before Taken.Open old
     → Takes methods users old x taken new → HasTaken methods users (before ++ x) taken new

@@ -32,13 +32,6 @@ use Rattle.assoc_core.proofs.Sendings.{more-nil, more-more, later-on, rose-befor
 use Rattle.assoc_core.proofs.Tryings.{tried-on, tried-as}
 use Rattle.assoc_core.proofs.Carryings.{prefix-same}
 
-pub comes-none : (told : Told) (before : List ℕ) → Comes told told before before
-comes-none told before = record {
-  bytes = [];
-  after' = sym (append-nil before);
-  told' = sym (ap (λ (z : Option (List ℕ)). let t : Told = record told { given = z } in t) (more-nil told.given));
-}
-
 pub comes-on : (first told now : Told) (before mid after : List ℕ) (most n : ℕ) → Comes first told before mid → ComesOf told now mid after most n → Comes first now before after
 comes-on first told now before mid after most n h k = record {
   bytes = h.bytes ++ k.bytes;

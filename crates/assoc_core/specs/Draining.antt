@@ -4,8 +4,15 @@ use Rattle.net_ends.specs.Counts.{Counts}
 use Rattle.net_ends.specs.Told.{Told}
 use Rattle.socks_machine.specs.declared.record.Record.{Record}
 use Rattle.assoc_core.specs.declared.carry.Give.{Give}
+use Rattle.assoc_core.specs.declared.send.Sent.{Sent}
 use Rattle.assoc_core.specs.Carrying.{GivesPart}
 use Rattle.assoc_core.specs.Plain.{owed_c, prelude_of}
+
+-- how a sink was served that isn't to be shut
+abbrev pub give_of : Sent → Give
+give_of Sent.All = Give.All
+give_of Sent.Full = Give.Full
+give_of Sent.Failed = Give.Unwritten
 
 -- what is pending was sent to the client
 pub record SendsClient (old new : Told) (counts counts' : Counts) (before after : Record) (give : Give) : Type 0 where

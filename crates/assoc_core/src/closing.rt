@@ -7,42 +7,45 @@ ghost use Rattle.socks_machine.specs.declared.lines.Line.{Line};
 ghost use Rattle.socks_machine.specs.Socks.{socks};
 ghost use Rattle.socks_machine.specs.Turn.{is_quiet as quiet_by};
 ghost use Rattle.assoc_core.specs.Carrying.{is_full as full_by, is_sound as sound_by};
-ghost use Rattle.assoc_core.specs.Draining.{SendsClient, SendsTarget};
+ghost use Rattle.assoc_core.specs.Draining.{SendsClient, SendsTarget, give_of as give_by};
 ghost use Rattle.assoc_core.specs.Stands.{Stands};
 ghost use Rattle.assoc_core.specs.Turns.{Turns, context};
 
 use crate::assoc::{Assoc, Next};
-use crate::carry::{Give, give_to};
-use crate::prelude::prelude_in;
-use crate::relay::{behind, is_sound};
-use crate::replies::owed_to_client;
+use crate::carry::Give;
+use crate::reach::send_to_target;
+use crate::relay::is_sound;
+use crate::send::Sent;
+use crate::talk::send_to_client;
 use net_ends::Link;
 use session_desk::DeskCall;
 use socks_machine::{Cause, Record};
 use std::alloc::{AllocError, Global};
 
+/// How a sink was served that isn't to be shut.
+fn give_of(sent: Sent) -> Give
+    ensures { result ≡ give_by sent }
+{
+    match sent {
+        Sent::All => Give::All,
+        Sent::Full => Give::Full,
+        Sent::Failed => Give::Unwritten,
+    }
+}
+
 /// Sends what is pending to the client.
-fn send_to_client<L: Link>(
+fn drain_to_client<L: Link>(
     alloc: Global,
     state: &mut Record,
     client: &mut L,
 ) -> Result<Give, AllocError>
     ensures { IfOk result (λ give. SendsClient (L.told client.old) (L.told client.new) (L.counts client.old) (L.counts client.new) state.old state.new give) }
 {
-    let owed = owed_to_client(alloc, state)?;
-    let pending = behind(owed.as_slice(), state.sent_c.len());
-    give_to(
-        alloc,
-        client,
-        &mut state.sent_c,
-        pending,
-        false,
-        &mut state.shut_c,
-    )
+    Ok(give_of(send_to_client(alloc, state, client)?))
 }
 
 /// Sends what is pending to the target, where there is one.
-fn send_to_target<L: Link + Drop>(
+fn drain_to_target<L: Link + Drop>(
     alloc: Global,
     state: &mut Record,
     target: &mut Option<L>,
@@ -52,16 +55,7 @@ fn send_to_target<L: Link + Drop>(
     let Some(link) = target else {
         return Ok(Give::Held);
     };
-    let prelude = prelude_in(state);
-    let pending = behind(behind(state.c.as_slice(), prelude), state.sent_t.len());
-    give_to(
-        alloc,
-        link,
-        &mut state.sent_t,
-        pending,
-        false,
-        &mut state.shut_t,
-    )
+    Ok(give_of(send_to_target(alloc, state, link)?))
 }
 
 fn is_full(give: Give) -> bool
@@ -98,11 +92,11 @@ impl<L: Link + Drop> Assoc<L> {
             → D.stands desk.old h marks → Stands L.told (socks users pubs) self → self.state.since ≡ now
             → Turns L.told L.counts (D.stands desk.new) (context users pubs generation config (D.cap desk.old) h marks) now net net self next) }
     {
-        let gave_c = send_to_client(alloc, &mut self.state, &mut self.client)?;
+        let gave_c = drain_to_client(alloc, &mut self.state, &mut self.client)?;
         if !is_sound(gave_c) {
             return Ok(Next::Done(self.finish(desk, cause)));
         }
-        let gave_t = send_to_target(alloc, &mut self.state, &mut self.target)?;
+        let gave_t = drain_to_target(alloc, &mut self.state, &mut self.target)?;
         if !is_sound(gave_t) {
             return Ok(Next::Done(self.finish(desk, cause)));
         }

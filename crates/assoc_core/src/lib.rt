@@ -26,6 +26,3 @@ mod totals;
 
 pub use assoc::{Assoc, Ended, Next, OpenFault};
 pub use one_turn::{Course, turn};
-
-#[cfg(test)]
-mod tests;

@@ -41,7 +41,7 @@ fn granted_to(decisions: &[Decision]) -> Option<Endpoint>
 }
 
 /// Sends the client's bytes behind its prelude to the target.
-fn send_to_target<L: Link>(
+pub fn send_to_target<L: Link>(
     alloc: Global,
     state: &mut Record,
     target: &mut L,

@@ -1,8 +1,0 @@
-use Rattle.std.proofs.Common.{arith}
-use Rattle.assoc_core.proofs.tests.at.Goals as goal
-
-pub returns : goal.returns
-returns c = record {
-  endpoint = record { addr = omega arith; port = c.ranges.port.fits };
-  port = c.requires;
-}
