@@ -3,7 +3,7 @@ use Rattle.std.proofs.Common.{[], ◌∷◌, ℕ, ◌≡◌, Bool, true, false, 
 use Rattle.std.specs.List.{list_any}
 use Rattle.addr_pattern.specs.declared.addr.Addr.{Addr}
 use Rattle.addr_pattern.specs.declared.fault.AddrFault.{AddrFault}
-use Rattle.addr_pattern.specs.AddressText.{ipv4_of, ipv6_of, addr_of, host_of, named}
+use Rattle.addr_pattern.specs.AddressText.{ipv4_of, ipv6_of, host_of, named}
 use Rattle.addr_pattern.specs.Reading.{or_fault, addr_read}
 use Rattle.udp_relay.specs.Outcomes.{addr_in}
 

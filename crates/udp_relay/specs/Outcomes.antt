@@ -1,5 +1,5 @@
 -- What an outcome says of a datagram, in the terms of the machine's fates.
-use Rattle.std.specs.Prelude.{ℕ, ◌≤◌, ◌+◌, Bool, true, false, not, Option, Some, None, List, ◌++◌, drop, length}
+use Rattle.std.specs.Prelude.{ℕ, ◌≤◌, ◌+◌, Bool, false, not, Option, Some, None, List, ◌++◌, drop, length}
 use Rattle.addr_pattern.specs.declared.addr.Addr.{Addr}
 use Rattle.addr_pattern.specs.declared.host.Host.{Host}
 use Rattle.addr_pattern.specs.Equal.{same_family}

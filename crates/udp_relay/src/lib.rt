@@ -10,3 +10,6 @@ mod sides;
 
 pub use outcome::{DropReason, Outcome};
 pub use sides::{Sides, learned, outcome_of};
+
+#[cfg(test)]
+mod tests;
